@@ -1,0 +1,12 @@
+pub mod Words
+pub mod Access
+pub mod Perform
+pub mod Resume
+pub mod Step
+pub mod Claim
+pub mod Shape
+pub mod Start
+pub mod Refuse
+pub mod Answer
+pub mod Next
+pub mod Runs

@@ -1,0 +1,102 @@
+-- THE REFUSALS of the calls, each with when it applies, and for each call those that it can meet, in the order of their numbers:
+-- "Each is given exactly then, the lowest that applies to the call."
+use Prim.Native.Nat.{ℕ}
+use mathlib.Core.Bool.{Bool, true, false, not}
+use mathlib.Core.List.{List, [], _∷_}
+use lib.ListN.{getD}
+use Rattle.rules.specs.Words.{Refusal, OutOfShape, NoSuchTask, TaskBusy, TaskIdle, ListLength, NoSuchRecord, RecordTwice, OutsideList, NoLink, NumbersUsed}
+use Rattle.rules.specs.Words.{Place, Idle, L1, L2, L3, L4, L5, L6, L7, L8, L9, L10, L11, H1, H2, H3, H4, H5, H6, H7, H8, Vlx, Read}
+use Rattle.rules.specs.Words.{Machine, Ask, AskLlx, AskScx, AskVlx, AskRead, AskStep, Call, Check, Passed, Failed}
+use Rattle.table.specs.Table.{pick, taskAt, linkAt, maxList, maxChanges}
+use Rattle.rules.specs.Claim.{Claim, less, holds, _&_, each, test}
+use Rattle.rules.specs.Shape.{within, exist, apart, inList, inShape}
+use Rattle.rules.specs.Start.{places}
+
+abbrev pub isIdle : Place → Bool
+isIdle Idle = true
+isIdle (L1 r) = false
+isIdle (L2 r m1) = false
+isIdle (L3 r m1 a) = false
+isIdle (L4 r m1 a s) = false
+isIdle (L5 r m1 a f) = false
+isIdle (L6 r m1 a) = false
+isIdle (L7 r m1 a) = false
+isIdle (L8 r m1 a) = false
+isIdle (L9 r) = false
+isIdle (L10 r b) = false
+isIdle (L11 r) = false
+isIdle (H1 u i after) = false
+isIdle (H2 u i after) = false
+isIdle (H3 u after) = false
+isIdle (H4 u after) = false
+isIdle (H5 u after) = false
+isIdle (H6 u i after) = false
+isIdle (H7 u after) = false
+isIdle (H8 u after) = false
+isIdle (Vlx n i) = false
+isIdle (Read r f) = false
+
+-- what an SCX writes lies inside: the written place and all of R below n (bits 4 to 7 name places that never are), the field up to 3
+abbrev pub inside : ℕ → ℕ → ℕ → ℕ → Claim
+inside n r written field = less written n & (less r 16 & inList n (places r)) & less field 4
+
+-- each of the first n of a list has a link, by which records do
+abbrev pub allLinked : ℕ → List ℕ → (ℕ → Bool) → Claim
+allLinked n l linked = each n (λ i. holds (linked (getD l i 0)))
+
+-- a refusal, and the claim that it is given without
+pub record Rule : Type 0 where
+  pub why : Refusal
+  pub unless : Claim
+
+abbrev pub unless : Refusal → Claim → Rule
+unless x c = record { why = x; unless = c }
+
+-- the first rule that is broken
+abbrev pub check : List Rule → Check
+check [] = Passed
+check (x ∷ xs) = pick (test 0 (x .unless)) (check xs) (Failed (x .why))
+
+-- what each call can meet, from 11 on, by the numbers of the table that it depends on: P, N, the used count, whether the task is
+-- idle, and which records it has a link to
+abbrev pub rules : (P N used : ℕ) (idle : Bool) (linked : ℕ → Bool) → ℕ → Ask → List ℕ → List Rule
+rules P N used idle linked t (AskLlx r) l =
+    unless NoSuchTask (less t P)
+    ∷ unless TaskBusy (holds idle)
+    ∷ unless NoSuchRecord (less r N)
+    ∷ []
+rules P N used idle linked t (AskScx n r written field new) l =
+    unless NoSuchTask (less t P)
+    ∷ unless TaskBusy (holds idle)
+    ∷ unless ListLength (within maxList n)
+    ∷ unless NoSuchRecord (exist N n l)
+    ∷ unless RecordTwice (apart n l)
+    ∷ unless OutsideList (inside n r written field)
+    ∷ unless NoLink (allLinked n l linked)
+    ∷ unless NumbersUsed (less used maxChanges)
+    ∷ []
+rules P N used idle linked t (AskVlx n) l =
+    unless NoSuchTask (less t P)
+    ∷ unless TaskBusy (holds idle)
+    ∷ unless ListLength (within maxList n)
+    ∷ unless NoSuchRecord (exist N n l)
+    ∷ unless RecordTwice (apart n l)
+    ∷ unless NoLink (allLinked n l linked)
+    ∷ []
+rules P N used idle linked t (AskRead r f) l =
+    unless NoSuchTask (less t P)
+    ∷ unless TaskBusy (holds idle)
+    ∷ unless NoSuchRecord (less r N)
+    ∷ unless OutsideList (less f 4)
+    ∷ []
+rules P N used idle linked t AskStep l =
+    unless NoSuchTask (less t P)
+    ∷ unless TaskIdle (holds (not idle))
+    ∷ []
+
+-- the rules of a call on a machine: 10 before all others
+unfoldable pub rulesOf : Machine → Call → List Rule
+rulesOf m e =
+    let t = e .task in
+    unless OutOfShape (holds (inShape m))
+    ∷ rules (m .p) (m .n) (m .used) (isIdle (taskAt m t .place)) (λ r. linkAt m t r .there) t (e .ask) (e .list)

@@ -1,0 +1,133 @@
+-- "Local work rides on it": where each step leads, by what its access saw.
+use Prim.Native.Nat.{ℕ, _+_}
+use mathlib.Core.Bool.{Bool, true, false}
+use mathlib.Core.List.{List}
+use lib.ListN.{getD}
+use lib.Dec.{eqb, ltb, leb}
+use Rattle.rules.specs.Words.{State, InProgress, Committed, Aborted, Change, After, Own, AtL8, AtL11, Seen, Move}
+use Rattle.rules.specs.Words.{Place, Idle, L1, L2, L3, L4, L5, L6, L7, L8, L9, L10, L11, H1, H2, H3, H4, H5, H6, H7, H8, Vlx, Read}
+use Rattle.rules.specs.Words.{TaskIdle, Answer, Accepted, Snapshot, Finalized, Fail, Yes, No, Value, Refused}
+use Rattle.table.specs.Table.{pick}
+
+-- on to a place; on, with the cell seen kept as field f; the answer, the task idle
+abbrev pub on : Place → Move
+on q = record { place = q; answer = Accepted; field = 4; keep = false; drop = 0 }
+
+abbrev pub onWith : Place → ℕ → Move
+onWith q f = record { place = q; answer = Accepted; field = f; keep = false; drop = 0 }
+
+abbrev pub done : Answer → Move
+done a = record { place = Idle; answer = a; field = 4; keep = false; drop = 0 }
+
+-- the snapshot, the link stored
+abbrev pub snapshot : Move
+snapshot = record { place = Idle; answer = Snapshot; field = 4; keep = true; drop = 0 }
+
+-- no, the links to the n records of the list dropped
+abbrev pub noDropping : ℕ → Move
+noDropping n = record { place = Idle; answer = No; field = 4; keep = false; drop = n }
+
+-- "L4 .. If that state was Aborted, or Committed with m2 no, go to L5, else L7"
+abbrev pub afterL4 : ℕ → Bool → ℕ → State → Bool → Place
+afterL4 r m1 a InProgress m2 = L7 r m1 a
+afterL4 r m1 a Committed false = L5 r m1 a 0
+afterL4 r m1 a Committed true = L7 r m1 a
+afterL4 r m1 a Aborted m2 = L5 r m1 a 0
+
+-- "L5 read cells 0, 1, 2, 3, one a step"
+abbrev pub afterL5 : ℕ → Bool → ℕ → ℕ → Place
+afterL5 r m1 a f = pick (ltb f 3) (L5 r m1 a (f + 1)) (L6 r m1 a)
+
+-- "L6 .. if it is a, store the link and answer the snapshot; else L7"
+abbrev pub afterL6 : ℕ → Bool → ℕ → ℕ → Move
+afterL6 r m1 a now = pick (eqb now a) snapshot (on (L7 r m1 a))
+
+-- "L7 .. Committed answers Finalized if m1, else goes to L9; otherwise L8"
+abbrev pub afterL7 : ℕ → Bool → ℕ → State → Move
+afterL7 r m1 a InProgress = on (L8 r m1 a)
+afterL7 r false a Committed = on (L9 r)
+afterL7 r true a Committed = done Finalized
+afterL7 r m1 a Aborted = on (L8 r m1 a)
+
+-- "L8 .. InProgress means help a, else L9"
+abbrev pub afterL8 : ℕ → Bool → ℕ → State → Place
+afterL8 r m1 a InProgress = H1 a 0 (AtL8 r m1)
+afterL8 r m1 a Committed = L9 r
+afterL8 r m1 a Aborted = L9 r
+
+-- "L10 read state of b: not InProgress answers Fail"
+abbrev pub afterL10 : ℕ → State → Move
+afterL10 r InProgress = on (L11 r)
+afterL10 r Committed = done Fail
+afterL10 r Aborted = done Fail
+
+-- "L11 read info as c, help c, then Fail. If c is 0 .. L11 itself answers Fail"
+abbrev pub afterL11 : ℕ → Move
+afterL11 c = pick (eqb c 0) (done Fail) (on (H1 c 0 AtL11))
+
+-- What a verdict means to who helped: "the verdict answers"; "After helping: yes with m1 answers Finalized, otherwise L9"; "then Fail"
+abbrev pub verdict : Bool → After → Move
+verdict true Own = done Yes
+verdict false Own = done No
+verdict true (AtL8 r true) = done Finalized
+verdict true (AtL8 r false) = on (L9 r)
+verdict false (AtL8 r m1) = on (L9 r)
+verdict ok AtL11 = done Fail
+
+-- "H1 for each place in order": after place i of n, the next one, or H5
+abbrev pub afterHeld : ℕ → ℕ → ℕ → After → Place
+afterHeld u i n after = pick (ltb (i + 1) n) (H1 u (i + 1) after) (H5 u after)
+
+abbrev pub afterH1 : ℕ → ℕ → ℕ → After → Bool → Place
+afterH1 u i n after held = pick held (afterHeld u i n after) (H2 u i after)
+
+-- "H2 read info: if it is U go on, else H3"
+abbrev pub afterH2 : ℕ → ℕ → ℕ → After → ℕ → Place
+afterH2 u i n after now = pick (eqb now u) (afterHeld u i n after) (H3 u after)
+
+-- "H3 read allFrozen: yes gives verdict yes; no leads to H4"
+abbrev pub afterH3 : ℕ → After → Bool → Move
+afterH3 u after frozen = pick frozen (verdict true after) (on (H4 u after))
+
+-- the first place of R from i on, 4 where there is none
+abbrev pub isFrom : ℕ → ℕ → Bool → Bool
+isFrom i k b = pick (leb i k) b false
+
+abbrev pub firstFrom : List Bool → ℕ → ℕ
+firstFrom r i =
+    pick (isFrom i 0 (getD r 0 false)) 0
+    (pick (isFrom i 1 (getD r 1 false)) 1 (pick (isFrom i 2 (getD r 2 false)) 2 (pick (isFrom i 3 (getD r 3 false)) 3 4)))
+
+-- "H6 mark each record of R in the order of V, one a step", then H7
+abbrev pub atMark : ℕ → ℕ → After → Place
+atMark u i after = pick (ltb i 4) (H6 u i after) (H7 u after)
+
+-- "VLX: .. a difference from the link answers no at once and drops the links of all V; after the last, yes, links kept"
+abbrev pub afterVlx : ℕ → ℕ → ℕ → ℕ → Move
+afterVlx n i now linked =
+    pick (eqb now linked) (pick (ltb (i + 1) n) (on (Vlx n (i + 1))) (done Yes)) (noDropping n)
+
+-- THE LOCAL WORK of a step at a place, which saw s, names the change ch, and whose link to the record read has the info linked
+abbrev pub resume : Place → Seen → Change → ℕ → Move
+resume Idle s ch linked = done (Refused TaskIdle)
+resume (L1 r) s ch linked = on (L2 r (s .bit))
+resume (L2 r m1) s ch linked = on (L3 r m1 (s .number))
+resume (L3 r m1 a) s ch linked = on (L4 r m1 a (s .state))
+resume (L4 r m1 a read) s ch linked = on (afterL4 r m1 a read (s .bit))
+resume (L5 r m1 a f) s ch linked = onWith (afterL5 r m1 a f) f
+resume (L6 r m1 a) s ch linked = afterL6 r m1 a (s .number)
+resume (L7 r m1 a) s ch linked = afterL7 r m1 a (s .state)
+resume (L8 r m1 a) s ch linked = on (afterL8 r m1 a (s .state))
+resume (L9 r) s ch linked = on (L10 r (s .number))
+resume (L10 r b) s ch linked = afterL10 r (s .state)
+resume (L11 r) s ch linked = afterL11 (s .number)
+resume (H1 u i after) s ch linked = on (afterH1 u i (ch .n) after (s .bit))
+resume (H2 u i after) s ch linked = on (afterH2 u i (ch .n) after (s .number))
+resume (H3 u after) s ch linked = afterH3 u after (s .bit)
+resume (H4 u after) s ch linked = verdict false after
+resume (H5 u after) s ch linked = on (atMark u (firstFrom (ch .r) 0) after)
+resume (H6 u i after) s ch linked = on (atMark u (firstFrom (ch .r) (i + 1)) after)
+resume (H7 u after) s ch linked = on (H8 u after)
+resume (H8 u after) s ch linked = verdict true after
+resume (Vlx n i) s ch linked = afterVlx n i (s .number) linked
+resume (Read r f) s ch linked = done (Value (s .cell))
