@@ -8,10 +8,10 @@ use Rattle.rules.specs.Step.{dropFirst, settle, accessAt, moveAt, step}
 use Rattle.rules.specs.Claim.{both, given, allBelow}
 use Rattle.rules.specs.Shape.{shape, inShape}
 use Rattle.rules.specs.Start.{start}
-use Rattle.rules.specs.Refuse.{rulesOf}
+use Rattle.rules.specs.Refuse.{linkedAt, rulesOf}
 use Rattle.rules.specs.Next.{refused, started, next, after, said}
 use Rattle.rules.specs.Runs.{stated, played, runs}
 
 pub as-stated : map played runs ≡ map stated runs
-unfolding tabulate sameCell freshRecords freshMachine fresh seen perform dropFirst settle accessAt moveAt step both given allBelow shape inShape start rulesOf refused started next after said played runs
+unfolding tabulate sameCell freshRecords freshMachine fresh seen perform dropFirst settle accessAt moveAt step both given allBelow shape inShape start linkedAt rulesOf refused started next after said played runs
 as-stated = refl

@@ -40,7 +40,14 @@ isIdle (Read r f) = false
 abbrev pub inside : ℕ → ℕ → ℕ → ℕ → Claim
 inside n r written field = less written n & (less r 16 & inList n (places r)) & less field 4
 
--- each of the first n of a list has a link, by which records do
+-- how many records of its list a call names; each of the first n of a list has a link, by which records do
+abbrev pub listed : Ask → ℕ
+listed (AskLlx r) = 0
+listed (AskScx n r written field new) = n
+listed (AskVlx n) = n
+listed (AskRead r f) = 0
+listed AskStep = 0
+
 abbrev pub allLinked : ℕ → List ℕ → (ℕ → Bool) → Claim
 allLinked n l linked = each n (λ i. holds (linked (getD l i 0)))
 
@@ -57,9 +64,9 @@ abbrev pub check : List Rule → Check
 check [] = Passed
 check (x ∷ xs) = pick (test 0 (x .unless)) (check xs) (Failed (x .why))
 
--- what each call can meet, from 11 on, by the numbers of the table that it depends on: P, N, the used count, whether the task is
--- idle, and which records it has a link to
-abbrev pub rules : (P N used : ℕ) (idle : Bool) (linked : ℕ → Bool) → ℕ → Ask → List ℕ → List Rule
+-- what each call can meet, from 11 on, by what it depends on of the table: P, N, the used count, whether the task is idle, and
+-- whether it has a link to each record of the call's list
+abbrev pub rules : (P N used : ℕ) (idle linked : Bool) → ℕ → Ask → List ℕ → List Rule
 rules P N used idle linked t (AskLlx r) l =
     unless NoSuchTask (less t P)
     ∷ unless TaskBusy (holds idle)
@@ -72,7 +79,7 @@ rules P N used idle linked t (AskScx n r written field new) l =
     ∷ unless NoSuchRecord (exist N n l)
     ∷ unless RecordTwice (apart n l)
     ∷ unless OutsideList (inside n r written field)
-    ∷ unless NoLink (allLinked n l linked)
+    ∷ unless NoLink (holds linked)
     ∷ unless NumbersUsed (less used maxChanges)
     ∷ []
 rules P N used idle linked t (AskVlx n) l =
@@ -81,7 +88,7 @@ rules P N used idle linked t (AskVlx n) l =
     ∷ unless ListLength (within maxList n)
     ∷ unless NoSuchRecord (exist N n l)
     ∷ unless RecordTwice (apart n l)
-    ∷ unless NoLink (allLinked n l linked)
+    ∷ unless NoLink (holds linked)
     ∷ []
 rules P N used idle linked t (AskRead r f) l =
     unless NoSuchTask (less t P)
@@ -95,8 +102,13 @@ rules P N used idle linked t AskStep l =
     ∷ []
 
 -- the rules of a call on a machine: 10 before all others
+abbrev pub idleAt : Machine → ℕ → Bool
+idleAt m t = isIdle (taskAt m t .place)
+
+unfoldable pub linkedAt : Machine → Call → Bool
+linkedAt m e = test 0 (allLinked (listed (e .ask)) (e .list) (λ r. linkAt m (e .task) r .there))
+
 unfoldable pub rulesOf : Machine → Call → List Rule
 rulesOf m e =
-    let t = e .task in
     unless OutOfShape (holds (inShape m))
-    ∷ rules (m .p) (m .n) (m .used) (isIdle (taskAt m t .place)) (λ r. linkAt m t r .there) t (e .ask) (e .list)
+    ∷ rules (m .p) (m .n) (m .used) (idleAt m (e .task)) (linkedAt m e) (e .task) (e .ask) (e .list)

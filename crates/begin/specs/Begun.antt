@@ -1,0 +1,78 @@
+-- What a start leaves, on small values: the meaning of this crate's functions. `start` of the rules says the same on the table;
+-- the crate exact has the two agree.
+use Prim.Native.Nat.{ℕ, _+_}
+use mathlib.Core.Bool.{Bool, false}
+use mathlib.Core.List.{List, [], _∷_}
+use lib.ListN.{getD, replicate}
+use lib.Dec.{ltb}
+use Rattle.table.specs.declared.Cell.{Cell}
+use Rattle.table.specs.declared.State.the-variants.{InProgress}
+use Rattle.table.specs.declared.Change.{Change}
+use Rattle.table.specs.declared.After.the-variants.{Own}
+use Rattle.table.specs.declared.Place.{Place}
+use Rattle.table.specs.declared.Place.the-variants.{L1, H1, Vlx, Read}
+use Rattle.table.specs.declared.Task.{Task}
+use Rattle.table.specs.declared.Link.{Link}
+use Rattle.table.specs.declared.Ask.{Ask}
+use Rattle.table.specs.declared.Ask.the-variants.{Llx as AskLlx, Scx as AskScx, Vlx as AskVlx, Read as AskRead, Step as AskStep}
+use Rattle.table.specs.Table.{pick, cellAt, noLink}
+use Rattle.rules.specs.Claim.{allBelow}
+use Rattle.rules.specs.Start.{places}
+use Rattle.rules.specs.Refuse.{listed}
+use Rattle.begin.specs.declared.Begun.{Begun}
+
+abbrev pub linkIn : List Link → ℕ → Link
+linkIn ls i = getD ls i noLink
+
+abbrev pub theres : List Link → List Bool
+theres ls = linkIn ls 0 .there ∷ linkIn ls 1 .there ∷ linkIn ls 2 .there ∷ linkIn ls 3 .there ∷ []
+
+abbrev pub linkedIn : Ask → List Link → Bool
+linkedIn ask ls = allBelow (listed ask) (λ i. getD (theres ls) i false)
+
+abbrev pub nextNumber : ℕ → ℕ
+nextNumber used = pick (ltb used 255) (used + 1) 0
+
+abbrev pub infoIn : ℕ → ℕ → Link → ℕ
+infoIn n i link = pick (ltb i n) (link .info) 0
+
+abbrev pub infosIn : ℕ → List Link → List ℕ
+infosIn n ls = infoIn n 0 (linkIn ls 0) ∷ infoIn n 1 (linkIn ls 1) ∷ infoIn n 2 (linkIn ls 2) ∷ infoIn n 3 (linkIn ls 3) ∷ []
+
+abbrev pub oldIn : List Link → ℕ → ℕ → Cell
+oldIn ls written field = cellAt (linkIn ls written .cells) field
+
+unfoldable pub filledBy : ℕ → List ℕ → ℕ → ℕ → ℕ → ℕ → List Link → Change
+filledBy n l r written field new ls =
+    record {
+      n = n;
+      v = l;
+      r = places r;
+      written = written;
+      field = field;
+      new = new;
+      old = oldIn ls written field;
+      state = InProgress;
+      frozen = false;
+      infos = infosIn n ls;
+    }
+
+abbrev pub puts : Task → Place → List ℕ → Task
+puts x q l = record { place = q; cells = x .cells; list = l }
+
+abbrev pub begunBy : Ask → List ℕ → ℕ → Task → Change → List Link → Begun
+begunBy (AskLlx r) l used x ch ls =
+    record { used = used; change = ch; task = puts x (L1 r) (x .list); drop = 1; list = r ∷ 0 ∷ 0 ∷ 0 ∷ [] }
+begunBy (AskScx n r written field new) l used x ch ls =
+    record {
+      used = nextNumber used;
+      change = filledBy n l r written field new ls;
+      task = puts x (H1 (nextNumber used) 0 Own) (x .list);
+      drop = n;
+      list = l;
+    }
+begunBy (AskVlx n) l used x ch ls =
+    record { used = used; change = ch; task = puts x (Vlx n 0) l; drop = 0; list = replicate 4 0 }
+begunBy (AskRead r f) l used x ch ls =
+    record { used = used; change = ch; task = puts x (Read r f) (x .list); drop = 0; list = replicate 4 0 }
+begunBy AskStep l used x ch ls = record { used = used; change = ch; task = x; drop = 0; list = replicate 4 0 }

@@ -1,0 +1,5 @@
+pub mod Clip
+pub mod Refusal
+pub mod Start
+pub mod Step
+pub mod Turn

@@ -1,0 +1,121 @@
+-- The step that a turn makes is the rules' own: one access on the record and the change that the place names, and the local work.
+use Prim.Native.Nat.{ℕ, _%_, _<_, _≤_}
+use native.Mathlib.Nat.{mod-eq-of-lt}
+use mathlib.Core.Path.{_≡_, refl, sym, ap, ap₂, _∙_}
+use mathlib.Core.Bool.{Bool}
+use mathlib.Core.List.{List}
+use lib.ListN.{getD, set}
+use lib.Seq.{set-getD}
+use Rattle.table.specs.declared.Machine.{Machine}
+use Rattle.table.specs.declared.Record.{Record}
+use Rattle.table.specs.declared.Change.{Change}
+use Rattle.table.specs.declared.Place.{Place}
+use Rattle.table.specs.declared.Place.the-variants.{Idle, L1, L2, L3, L4, L5, L6, L7, L8, L9, L10, L11, H1, H2, H3, H4, H5, H6, H7, H8, Vlx, Read}
+use Rattle.table.specs.declared.Access.{Access}
+use Rattle.table.specs.declared.Seen.{Seen}
+use Rattle.table.specs.declared.Move.{Move}
+use Rattle.table.specs.declared.Out.{Out}
+use Rattle.table.specs.Table.{pick, noCells, noChange, recordAt, changeAt, taskAt, slot, linkAt}
+use Rattle.rules.specs.Access.{changeOf, accessOf, recordOf, changeIn}
+use Rattle.rules.specs.Perform.{seenBy, recordBy, changeBy, seen, perform}
+use Rattle.rules.specs.Resume.{resume}
+use Rattle.rules.specs.Step.{taskBy, linkBy, dropFirst, settle, accessAt, moveAt, step}
+use Rattle.rules.specs.Shape.{InShape}
+use Rattle.act.specs.Act.{actOf}
+use Rattle.turns.specs.Turn.{clip, putStep, actIn, stepWith, changeNo, stepIn}
+use Rattle.keeps.proofs.Bounds.{task<8, record<32, list<32}
+use Rattle.exact.proofs.Clip.{drop-same, clip-same}
+
+-- The access of a place sees, and alters, of the changes only the one that the place names: what it sees there, and the changes after.
+pub record Named (cs : List Change) (x : Record) (c : ℕ) (a : Access) : Type 0 where
+  pub sees : seenBy a x (getD cs (changeIn a) noChange) ≡ seenBy a x (getD cs c noChange)
+  pub leaves : set cs (changeIn a) (changeBy a (getD cs (changeIn a) noChange)) ≡ set cs c (changeBy a (getD cs c noChange))
+
+module _ (cs : List Change) (x : Record) (l : List ℕ) where
+  stored-back : (c d : ℕ) → set cs c (getD cs c noChange) ≡ set cs d (getD cs d noChange)
+  stored-back c d = set-getD cs c noChange ∙ sym (set-getD cs d noChange)
+
+  named : (q : Place) (ch : Change) → Named cs x (changeOf q) (accessOf q ch l)
+  named Idle ch = record { sees = refl; leaves = refl }
+  named (L1 r) ch = record { sees = refl; leaves = refl }
+  named (L2 r m1) ch = record { sees = refl; leaves = refl }
+  named (L3 r m1 a) ch = record { sees = refl; leaves = refl }
+  named (L4 r m1 a s) ch = record { sees = refl; leaves = stored-back 0 a }
+  named (L5 r m1 a f) ch = record { sees = refl; leaves = stored-back 0 a }
+  named (L6 r m1 a) ch = record { sees = refl; leaves = stored-back 0 a }
+  named (L7 r m1 a) ch = record { sees = refl; leaves = refl }
+  named (L8 r m1 a) ch = record { sees = refl; leaves = refl }
+  named (L9 r) ch = record { sees = refl; leaves = refl }
+  named (L10 r b) ch = record { sees = refl; leaves = refl }
+  named (L11 r) ch = record { sees = refl; leaves = refl }
+  named (H1 u i after) ch = record { sees = refl; leaves = stored-back 0 u }
+  named (H2 u i after) ch = record { sees = refl; leaves = stored-back 0 u }
+  named (H3 u after) ch = record { sees = refl; leaves = refl }
+  named (H4 u after) ch = record { sees = refl; leaves = refl }
+  named (H5 u after) ch = record { sees = refl; leaves = refl }
+  named (H6 u i after) ch = record { sees = refl; leaves = stored-back 0 u }
+  named (H7 u after) ch = record { sees = refl; leaves = stored-back 0 u }
+  named (H8 u after) ch = record { sees = refl; leaves = refl }
+  named (Vlx n i) ch = record { sees = refl; leaves = refl }
+  named (Read r f) ch = record { sees = refl; leaves = refl }
+
+module _ (m : Machine) (t : ℕ) where
+  -- the local work of the task's place on what was seen
+  work : Seen → Move
+  work s =
+      let q = taskAt m t .place in
+      resume q s (changeAt m (changeOf q)) (linkAt m t (recordOf (accessAt m t)) .info)
+
+  -- what a step leaves, by the changes, what was seen, and the list that its links are dropped by
+  built : List Change → Seen → List ℕ → Out
+  built changes s l =
+      let x = taskAt m t in
+      let a = accessAt m t in
+      let r = recordOf a in
+      let v = work s in
+      record {
+        m = record {
+          p = m .p;
+          n = m .n;
+          used = m .used;
+          records = set (m .records) r (recordBy a (recordAt m r));
+          changes = changes;
+          tasks = set (m .tasks) t (taskBy x s v);
+          links = dropFirst (set (m .links) (slot t r) (linkBy (linkAt m t r) x s v)) t l (v .drop);
+        };
+        answer = v .answer;
+        cells = pick (v .keep) (x .cells) noCells;
+      }
+
+  -- the same links are dropped by a list that agrees as far as they go
+  same-list : (changes : List Change) (s : Seen) (k l : List ℕ) → ((i : ℕ) → i < work s .drop → getD k i 0 ≡ getD l i 0) → built changes s k ≡ built changes s l
+  unfolding built
+  same-list changes s k l h = rw (drop-same _ t k l (work s .drop) h) refl
+
+  by-turn : (c r : ℕ) (a : Access) → c ≡ changeOf (taskAt m t .place) → a ≡ accessAt m t → r ≡ recordOf a
+      → stepWith m t c r a ≡ built (set (m .changes) c (changeBy a (changeAt m c))) (seenBy a (recordAt m r) (changeAt m c)) (clip (taskAt m t .list))
+  unfolding stepWith putStep actIn actOf built work
+  by-turn c r a ec ea er = rw (er, ea, ec) refl
+
+  by-rules : (a : Access) → a ≡ accessAt m t
+      → step m t ≡ built (set (m .changes) (changeIn a) (changeBy a (changeAt m (changeIn a)))) (seen a m) (taskAt m t .list)
+  unfolding step settle perform moveAt built work
+  by-rules a ea = rw ea refl
+
+  step-same : InShape m → t < m .p → stepWith m t (changeNo m t) (recordOf (accessAt m t)) (accessAt m t) ≡ step m t
+  unfolding seen accessAt moveAt work
+  step-same S tl =
+      let x = taskAt m t in
+      let a = accessAt m t in
+      let n = named (m .changes) (recordAt m (recordOf a)) (x .list) (x .place) (changeAt m (changeNo m t)) in
+      by-turn (changeNo m t) (recordOf a) a refl refl refl
+      ∙ ap₂ (λ (changes : List Change) (s : Seen). built changes s (clip (x .list))) (sym (n .leaves)) (sym (n .sees))
+      ∙ same-list _ (seen a m) (clip (x .list)) (x .list) (clip-same (x .list) (moveAt m t .drop) (list<32 m S t tl))
+      ∙ sym (by-rules a refl)
+
+pub step-is : (m : Machine) (t : ℕ) → InShape m → t < m .p → stepIn m (t % 8) ≡ step m t
+unfolding stepIn
+step-is m t S tl =
+    ap (stepIn m) (mod-eq-of-lt (task<8 m S t tl))
+    ∙ ap (λ r. stepWith m t (changeNo m t) r (accessAt m t)) (mod-eq-of-lt (record<32 m S t tl))
+    ∙ step-same m t S tl

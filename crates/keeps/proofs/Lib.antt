@@ -1,0 +1,17 @@
+pub mod Words
+pub mod Stores
+pub mod Fine
+pub mod Places
+pub mod Links
+pub mod Frame
+pub mod Acts
+pub mod Moves
+pub mod Steps
+pub mod Starts
+pub mod Scx
+pub mod Obeyed
+pub mod Kept
+pub mod Lengths
+pub mod Short
+pub mod Fresh
+pub mod Bounds

@@ -1,0 +1,13 @@
+-- `perform::state_of` meets its contract.
+use borrow.Author.Tests.{eq-eqb, ne-eqb}
+use Rattle.perform.proofs.state_of.Statement.{statement}
+use Rattle.perform.proofs.state_of.Tie as tie
+
+returns : tie.Need-returns
+returns c = simp (eq-eqb _ _ (c .if1 .taken))
+
+returns-2 : tie.Need-returns-2
+returns-2 c = simp (ne-eqb _ _ (c .if1 .left))
+
+pub state-of-spec : {M : Type 1} → statement M
+state-of-spec = tie.close (tie.spec returns returns-2)

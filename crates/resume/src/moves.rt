@@ -1,0 +1,69 @@
+// The moves that a step can make: on to a place, or done with an answer.
+ghost use mathlib.Core.Path.{_≡_};
+ghost use Rattle.rules.specs.Resume.{on, onWith, done, snapshot, noDropping};
+use table::Answer;
+use table::Move;
+use table::Place;
+
+pub fn on(q: Place) -> Move
+    ensures { λ o. ⌜ o ≡ on q ⌝ }
+{
+    Move {
+        place: q,
+        answer: Answer::Accepted,
+        field: 4,
+        keep: false,
+        drop: 0,
+    }
+}
+
+// On, with the cell seen kept as field f.
+pub fn on_with(q: Place, f: u8) -> Move
+    ensures { λ o. ⌜ o ≡ onWith q f ⌝ }
+{
+    Move {
+        place: q,
+        answer: Answer::Accepted,
+        field: f,
+        keep: false,
+        drop: 0,
+    }
+}
+
+pub fn done(a: Answer) -> Move
+    ensures { λ o. ⌜ o ≡ done a ⌝ }
+{
+    Move {
+        place: Place::Idle,
+        answer: a,
+        field: 4,
+        keep: false,
+        drop: 0,
+    }
+}
+
+// The snapshot, the link stored.
+pub fn snapshot() -> Move
+    ensures { λ o. ⌜ o ≡ snapshot ⌝ }
+{
+    Move {
+        place: Place::Idle,
+        answer: Answer::Snapshot,
+        field: 4,
+        keep: true,
+        drop: 0,
+    }
+}
+
+// No, the links to the n records of the list dropped.
+pub fn no_dropping(n: u8) -> Move
+    ensures { λ o. ⌜ o ≡ noDropping n ⌝ }
+{
+    Move {
+        place: Place::Idle,
+        answer: Answer::No,
+        field: 4,
+        keep: false,
+        drop: n,
+    }
+}
