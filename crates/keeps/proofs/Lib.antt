@@ -15,3 +15,4 @@ pub mod Lengths
 pub mod Short
 pub mod Fresh
 pub mod Bounds
+pub mod Always

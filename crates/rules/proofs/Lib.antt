@@ -1,2 +1,4 @@
 pub mod Exact
 pub mod Runs
+pub mod Lowest
+pub mod Refused
