@@ -1,7 +1,7 @@
 -- What a start leaves, on small values: the meaning of this crate's functions. `start` of the rules says the same on the table;
 -- the crate exact has the two agree.
 use Prim.Native.Nat.{ℕ, _+_}
-use mathlib.Core.Bool.{Bool, false}
+use mathlib.Core.Bool.{false}
 use mathlib.Core.List.{List, [], _∷_}
 use lib.ListN.{getD, replicate}
 use lib.Dec.{ltb}
@@ -16,19 +16,8 @@ use Rattle.table.specs.declared.Link.{Link}
 use Rattle.table.specs.declared.Ask.{Ask}
 use Rattle.table.specs.declared.Ask.the-variants.{Llx as AskLlx, Scx as AskScx, Vlx as AskVlx, Read as AskRead, Step as AskStep}
 use Rattle.table.specs.Table.{pick, cellAt, noLink}
-use Rattle.rules.specs.Claim.{allBelow}
 use Rattle.rules.specs.Start.{places}
-use Rattle.rules.specs.Refuse.{listed}
 use Rattle.begin.specs.declared.Begun.{Begun}
-
-abbrev pub linkIn : List Link → ℕ → Link
-linkIn ls i = getD ls i noLink
-
-abbrev pub theres : List Link → List Bool
-theres ls = linkIn ls 0 .there ∷ linkIn ls 1 .there ∷ linkIn ls 2 .there ∷ linkIn ls 3 .there ∷ []
-
-abbrev pub linkedIn : Ask → List Link → Bool
-linkedIn ask ls = allBelow (listed ask) (λ i. getD (theres ls) i false)
 
 abbrev pub nextNumber : ℕ → ℕ
 nextNumber used = pick (ltb used 255) (used + 1) 0
@@ -37,10 +26,10 @@ abbrev pub infoIn : ℕ → ℕ → Link → ℕ
 infoIn n i link = pick (ltb i n) (link .info) 0
 
 abbrev pub infosIn : ℕ → List Link → List ℕ
-infosIn n ls = infoIn n 0 (linkIn ls 0) ∷ infoIn n 1 (linkIn ls 1) ∷ infoIn n 2 (linkIn ls 2) ∷ infoIn n 3 (linkIn ls 3) ∷ []
+infosIn n ls = infoIn n 0 (getD ls 0 noLink) ∷ infoIn n 1 (getD ls 1 noLink) ∷ infoIn n 2 (getD ls 2 noLink) ∷ infoIn n 3 (getD ls 3 noLink) ∷ []
 
 abbrev pub oldIn : List Link → ℕ → ℕ → Cell
-oldIn ls written field = cellAt (linkIn ls written .cells) field
+oldIn ls written field = cellAt (getD ls written noLink .cells) field
 
 unfoldable pub filledBy : ℕ → List ℕ → ℕ → ℕ → ℕ → ℕ → List Link → Change
 filledBy n l r written field new ls =

@@ -11,7 +11,6 @@ use Rattle.table.specs.declared.Link.{Link}
 use Rattle.table.specs.Table.{pick, noLink, slot}
 use Rattle.rules.specs.Step.{dropped, dropFirst}
 use Rattle.rules.specs.Claim.{both, allBelow}
-use Rattle.begin.specs.Begun.{linkIn}
 use Rattle.turns.specs.Turn.{clip, linksOf}
 
 -- a choice whose first side matters only where the test passes
@@ -33,7 +32,7 @@ pub clip-same : (l : List ℕ) (n : ℕ) → ((i : ℕ) → i < n → getD l i 0
 clip-same l n h i q = List·getD-map (λ r. r % 32) l i 0 ∙ mod-eq-of-lt (h i q)
 
 -- the i-th of the links that a turn reads
-pub near : (ls : List Link) (t : ℕ) (l : List ℕ) (i : ℕ) → i < 4 → getD l i 0 < 32 → linkIn (linksOf ls t l) i ≡ getD ls (slot t (getD l i 0)) noLink
+pub near : (ls : List Link) (t : ℕ) (l : List ℕ) (i : ℕ) → i < 4 → getD l i 0 < 32 → getD (linksOf ls t l) i noLink ≡ getD ls (slot t (getD l i 0)) noLink
 near ls t l zero q b = ap (λ r. getD ls (slot t r) noLink) (mod-eq-of-lt b)
 near ls t l (suc zero) q b = ap (λ r. getD ls (slot t r) noLink) (mod-eq-of-lt b)
 near ls t l (suc (suc zero)) q b = ap (λ r. getD ls (slot t r) noLink) (mod-eq-of-lt b)

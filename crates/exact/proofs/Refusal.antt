@@ -21,13 +21,13 @@ use Rattle.rules.specs.Claim.{allBelow, test}
 use Rattle.rules.specs.Shape.{within, exist, apart, InShape}
 use Rattle.rules.specs.Refuse.{inside, isIdle, check, rules, idleAt, linkedAt}
 use Rattle.rules.proofs.Exact.{told}
-use Rattle.begin.specs.Begun.{linkIn, theres, linkedIn}
+use Rattle.refuse.specs.Linked.{theres, linkedIn}
 use Rattle.turns.specs.Turn.{linksOf, refusalIn}
 use Rattle.keeps.proofs.Bounds.{p≤8, n≤32}
 use Rattle.exact.proofs.Clip.{pick-same, all-same, near}
 
 -- what the links read say of each place
-at-there : (ls : List Link) (i : ℕ) → i < 4 → getD (theres ls) i false ≡ linkIn ls i .there
+at-there : (ls : List Link) (i : ℕ) → i < 4 → getD (theres ls) i false ≡ getD ls i noLink .there
 at-there ls zero q = refl
 at-there ls (suc zero) q = refl
 at-there ls (suc (suc zero)) q = refl

@@ -18,7 +18,7 @@ use Rattle.table.specs.declared.Ask.the-variants.{Llx as AskLlx, Scx as AskScx,
 use Rattle.table.specs.declared.Call.{Call}
 use Rattle.table.specs.declared.Answer.the-variants.{Accepted}
 use Rattle.table.specs.declared.Out.{Out}
-use Rattle.table.specs.Table.{pick, tabulate, noCells, noChange, cellAt, changeAt, taskAt, slot, linkAt}
+use Rattle.table.specs.Table.{pick, tabulate, noCells, noChange, noLink, cellAt, changeAt, taskAt, slot, linkAt}
 use Rattle.rules.specs.Step.{dropFirst}
 use Rattle.rules.specs.Claim.{Says}
 use Rattle.rules.specs.Shape.{InShape, exist}
@@ -26,7 +26,7 @@ use Rattle.rules.specs.Start.{places, filled, start}
 use Rattle.rules.specs.Refuse.{rules, idleAt, linkedAt}
 use Rattle.rules.specs.Next.{started}
 use Rattle.begin.specs.declared.Begun.{Begun}
-use Rattle.begin.specs.Begun.{linkIn, nextNumber, infoIn, infosIn, oldIn, filledBy, begunBy}
+use Rattle.begin.specs.Begun.{nextNumber, infoIn, infosIn, oldIn, filledBy, begunBy}
 use Rattle.turns.specs.Turn.{clip, linksOf, putStart, begunIn, startIn}
 use Rattle.keeps.proofs.Obeyed.{Obeyed}
 use Rattle.keeps.proofs.Bounds.{p≤8, n≤32}
@@ -68,10 +68,10 @@ module _ (m : Machine) (few : m .n ≤ 32) (t : ℕ) where
     below : (i : ℕ) → i < n → getD l i 0 < 32
     below i q = le-trans (exists i q) few
 
-    here : (i : ℕ) → i < n → linkIn (linksOf (m .links) t l) i ≡ linkAt m t (getD l i 0)
+    here : (i : ℕ) → i < n → getD (linksOf (m .links) t l) i noLink ≡ linkAt m t (getD l i 0)
     here i q = near (m .links) t l i (omega arith) (below i q)
 
-    info-same : (i : ℕ) → infoIn n i (linkIn (linksOf (m .links) t l) i) ≡ pick (ltb i n) (linkAt m t (getD l i 0) .info) 0
+    info-same : (i : ℕ) → infoIn n i (getD (linksOf (m .links) t l) i noLink) ≡ pick (ltb i n) (linkAt m t (getD l i 0) .info) 0
     info-same i = pick-same (ltb i n) _ _ _ (λ q. ap (λ (k : Link). k .info) (here i (ltb-true i n q)))
 
     infos-same : infosIn n (linksOf (m .links) t l) ≡ tabulate 4 (λ i. pick (ltb i n) (linkAt m t (getD l i 0) .info) 0)

@@ -6,6 +6,7 @@ ghost use lib.Dec.{eqb, leb, ltb};
 ghost use Rattle.table.specs.Table.{cellAt};
 ghost use Rattle.rules.specs.Claim.{test, given, allBelow};
 ghost use Rattle.rules.specs.Shape as spec;
+ghost use Rattle.rules.specs.Start.{places};
 use table::Cell;
 use table::Cells;
 use table::List;
@@ -136,4 +137,11 @@ pub fn stamps_known(used: u8, k: u8, cells: Cells) -> bool
         i += 1;
     }
     true
+}
+
+// The set R of an SCX as a bool for each place.
+pub fn places(r: u8) -> [bool; Machine::LIST]
+    ensures { λ o. ⌜ o ≡ places r ⌝ }
+{
+    [r % 2 == 1, r / 2 % 2 == 1, r / 4 % 2 == 1, r / 8 % 2 == 1]
 }

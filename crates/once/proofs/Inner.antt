@@ -26,6 +26,8 @@ use Rattle.lists.proofs.infos_known.Kinds as lists-infos-known-kinds
 use Rattle.lists.proofs.infos_known.Reads as lists-infos-known-reads
 use Rattle.lists.proofs.stamps_known.Kinds as lists-stamps-known-kinds
 use Rattle.lists.proofs.stamps_known.Reads as lists-stamps-known-reads
+use Rattle.lists.proofs.places.Kinds as lists-places-kinds
+use Rattle.lists.proofs.places.Reads as lists-places-reads
 use Rattle.access.proofs.change_of.Kinds as access-change-of-kinds
 use Rattle.access.proofs.change_of.Reads as access-change-of-reads
 use Rattle.access.proofs.access_of.Kinds as access-access-of-kinds
@@ -42,10 +44,10 @@ use Rattle.perform.proofs.change_by.Kinds as perform-change-by-kinds
 use Rattle.perform.proofs.change_by.Reads as perform-change-by-reads
 use Rattle.resume.proofs.resume.Kinds as resume-resume-kinds
 use Rattle.resume.proofs.resume.Reads as resume-resume-reads
-use Rattle.begin.proofs.refusal.Kinds as begin-refusal-kinds
-use Rattle.begin.proofs.refusal.Reads as begin-refusal-reads
-use Rattle.begin.proofs.linked.Kinds as begin-linked-kinds
-use Rattle.begin.proofs.linked.Reads as begin-linked-reads
+use Rattle.refuse.proofs.refusal.Kinds as refuse-refusal-kinds
+use Rattle.refuse.proofs.refusal.Reads as refuse-refusal-reads
+use Rattle.refuse.proofs.linked.Kinds as refuse-linked-kinds
+use Rattle.refuse.proofs.linked.Reads as refuse-linked-reads
 use Rattle.begin.proofs.next_number.Kinds as begin-next-number-kinds
 use Rattle.begin.proofs.next_number.Reads as begin-next-number-reads
 use Rattle.begin.proofs.start.Kinds as begin-start-kinds
@@ -56,6 +58,10 @@ use Rattle.turns.proofs.refusal_in.Kinds as turns-refusal-in-kinds
 use Rattle.turns.proofs.refusal_in.Reads as turns-refusal-in-reads
 use Rattle.turns.proofs.accepted_in.Kinds as turns-accepted-in-kinds
 use Rattle.turns.proofs.accepted_in.Reads as turns-accepted-in-reads
+use Rattle.answers.proofs.refusal_number.Kinds as answers-refusal-number-kinds
+use Rattle.answers.proofs.refusal_number.Reads as answers-refusal-number-reads
+use Rattle.answers.proofs.number_of.Kinds as answers-number-of-kinds
+use Rattle.answers.proofs.number_of.Reads as answers-number-of-reads
 use Rattle.once.proofs.Once.{Once}
 
 pub four-number-at : Once 0 four-number-at-kinds.ps four-number-at-kinds.r four-number-at-reads.Post
@@ -97,6 +103,9 @@ lists-infos-known κs a o p s t e f = e ∙ sym f
 pub lists-stamps-known : Once 0 lists-stamps-known-kinds.ps lists-stamps-known-kinds.r lists-stamps-known-reads.Post
 lists-stamps-known κs a o p s t e f = e ∙ sym f
 
+pub lists-places : Once 0 lists-places-kinds.ps lists-places-kinds.r lists-places-reads.Post
+lists-places κs a o p s t e f = e ∙ sym f
+
 pub access-change-of : Once 0 access-change-of-kinds.ps access-change-of-kinds.r access-change-of-reads.Post
 access-change-of κs a o p s t e f = e ∙ sym f
 
@@ -121,11 +130,11 @@ perform-change-by κs a o p s t e f = e ∙ sym f
 pub resume-resume : Once 0 resume-resume-kinds.ps resume-resume-kinds.r resume-resume-reads.Post
 resume-resume κs a o p s t e f = e ∙ sym f
 
-pub begin-refusal : Once 0 begin-refusal-kinds.ps begin-refusal-kinds.r begin-refusal-reads.Post
-begin-refusal κs a o p s t e f = e ∙ sym f
+pub refuse-refusal : Once 0 refuse-refusal-kinds.ps refuse-refusal-kinds.r refuse-refusal-reads.Post
+refuse-refusal κs a o p s t e f = e ∙ sym f
 
-pub begin-linked : Once 0 begin-linked-kinds.ps begin-linked-kinds.r begin-linked-reads.Post
-begin-linked κs a o p s t e f = e ∙ sym f
+pub refuse-linked : Once 0 refuse-linked-kinds.ps refuse-linked-kinds.r refuse-linked-reads.Post
+refuse-linked κs a o p s t e f = e ∙ sym f
 
 pub begin-next-number : Once 0 begin-next-number-kinds.ps begin-next-number-kinds.r begin-next-number-reads.Post
 begin-next-number κs a o p s t e f = e ∙ sym f
@@ -141,3 +150,9 @@ turns-refusal-in κs a o p s t e f = e ∙ sym f
 
 pub turns-accepted-in : Once 0 turns-accepted-in-kinds.ps turns-accepted-in-kinds.r turns-accepted-in-reads.Post
 turns-accepted-in κs a o p s t e f = e ∙ sym f
+
+pub answers-refusal-number : Once 0 answers-refusal-number-kinds.ps answers-refusal-number-kinds.r answers-refusal-number-reads.Post
+answers-refusal-number κs a o p s t e f = e ∙ sym f
+
+pub answers-number-of : Once 0 answers-number-of-kinds.ps answers-number-of-kinds.r answers-number-of-reads.Post
+answers-number-of κs a o p s t e f = e ∙ sym f

@@ -19,7 +19,8 @@ use Rattle.rules.specs.Refuse.{isIdle, check, rules}
 use Rattle.act.specs.declared.Stored.{Stored}
 use Rattle.act.specs.Act.{actOf}
 use Rattle.begin.specs.declared.Begun.{Begun}
-use Rattle.begin.specs.Begun.{linkedIn, nextNumber, begunBy}
+use Rattle.refuse.specs.Linked.{linkedIn}
+use Rattle.begin.specs.Begun.{nextNumber, begunBy}
 
 -- a list with each record number below 32
 abbrev pub clip : List ℕ → List ℕ

@@ -60,9 +60,9 @@ pub fn refusal_in(m: Machine, e: Call) -> Check
     let place = task.place;
     let links = m.links;
     let near = links_of(links, t, list);
-    let linked = begin::linked(ask, near);
+    let linked = refuse::linked(ask, near);
     let idle = access::is_idle(place);
-    begin::refusal(e, m.p, m.n, m.used, idle, linked)
+    refuse::refusal(e, m.p, m.n, m.used, idle, linked)
 }
 
 // The start of an operation that passed its refusals.

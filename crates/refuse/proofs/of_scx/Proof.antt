@@ -1,0 +1,61 @@
+-- `refuse::of_scx` meets its contract.
+use borrow.Author.Needs.{needs}
+use Rattle.refuse.proofs.of_scx.Statement.{statement}
+use Rattle.refuse.proofs.of_scx.Tie as tie
+
+unless-requires : tie.Need-unless-requires
+unless-requires c κs = search needs
+
+unless-requires-2 : tie.Need-unless-requires-2
+unless-requires-2 c κs = search needs
+
+inside-requires : tie.Need-inside-requires
+inside-requires c κs = search needs
+
+unless-requires-3 : tie.Need-unless-requires-3
+unless-requires-3 c κs = search needs
+
+apart-requires : tie.Need-apart-requires
+apart-requires c κs = search needs
+
+unless-requires-4 : tie.Need-unless-requires-4
+unless-requires-4 c κs = search needs
+
+exist-requires : tie.Need-exist-requires
+exist-requires c κs = search needs
+
+unless-requires-5 : tie.Need-unless-requires-5
+unless-requires-5 c κs = search needs
+
+length-fine-requires : tie.Need-length-fine-requires
+length-fine-requires c κs = search needs
+
+unless-requires-6 : tie.Need-unless-requires-6
+unless-requires-6 c κs = search needs
+
+unless-requires-7 : tie.Need-unless-requires-7
+unless-requires-7 c κs = search needs
+
+unless-requires-8 : tie.Need-unless-requires-8
+unless-requires-8 c κs = search needs
+
+returns : tie.Need-returns
+returns c = simp (c .before .unless7 .ensures, c .before .before .unless6 .ensures, c .before .before .before .length-fine .ensures, c .before .before .before .before .unless5 .ensures, c .before .before .before .before .before .exist .ensures, c .before .before .before .before .before .before .unless4 .ensures, c .before .before .before .before .before .before .before .apart .ensures, c .before .before .before .before .before .before .before .before .unless3 .ensures, c .before .before .before .before .before .before .before .before .before .inside .ensures, c .before .before .before .before .before .before .before .before .before .before .unless2 .ensures, c .before .before .before .before .before .before .before .before .before .before .before .unless .ensures) at (c .unless8 .ensures)
+
+pub of-scx-spec : {M : Type 1} → statement M
+of-scx-spec =
+    tie.close
+    (tie.spec
+    unless-requires
+    unless-requires-2
+    inside-requires
+    unless-requires-3
+    apart-requires
+    unless-requires-4
+    exist-requires
+    unless-requires-5
+    length-fine-requires
+    unless-requires-6
+    unless-requires-7
+    unless-requires-8
+    returns)
