@@ -22,7 +22,7 @@ pub act-is : (x : Task) (a : Access) (ch : Change) (rec : Record) (link : Link) 
     → c2 ≡ changeBy a ch
     → t2 ≡ taskBy x s v
     → l2 ≡ linkBy link x s v
-    → cs ≡ pick (v .keep) (x .cells) noCells
+    → cs ≡ pick (v .store) (x .cells) noCells
     → record { rec = r2; change = c2; task = t2; link = l2; drop = v .drop; answer = v .answer; cells = cs } ≡ actOf x a ch rec link
 unfolding actOf
 act-is x a ch rec link s v r2 c2 t2 l2 cs es ev er ec et el ek = rw (er, ec, et, el, ek, ev, es) refl

@@ -22,5 +22,5 @@ actOf x a ch rec link =
       link = linkBy link x s v;
       drop = v .drop;
       answer = v .answer;
-      cells = pick (v .keep) (x .cells) noCells;
+      cells = pick (v .store) (x .cells) noCells;
     }

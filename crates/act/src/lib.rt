@@ -42,7 +42,7 @@ fn task_by(x: Task, s: Seen, v: Move) -> Task
 fn link_by(k: Link, x: Task, s: Seen, v: Move) -> Link
     ensures { λ o. ⌜ o ≡ linkBy k x s v ⌝ }
 {
-    if v.keep {
+    if v.store {
         let cells = x.cells;
         Link {
             there: true,
@@ -56,9 +56,9 @@ fn link_by(k: Link, x: Task, s: Seen, v: Move) -> Link
 
 // The cells that are reported: those of a snapshot.
 fn reported(x: Task, v: Move) -> Cells
-    ensures { λ o. ⌜ o ≡ pick (v .keep) (x .cells) noCells ⌝ }
+    ensures { λ o. ⌜ o ≡ pick (v .store) (x .cells) noCells ⌝ }
 {
-    if v.keep {
+    if v.store {
         x.cells
     } else {
         [Cell { value: 0, stamp: 0 }; Machine::FIELDS]

@@ -16,7 +16,7 @@ pub fn refusal_number(why: Refusal) -> u8
         Refusal::ListLength => 14,
         Refusal::NoSuchRecord => 15,
         Refusal::RecordTwice => 16,
-        Refusal::OutsideList => 17,
+        Refusal::PlaceOrField => 17,
         Refusal::NoLink => 18,
         Refusal::NumbersUsed => 19,
         Refusal::SheetSize => 20,

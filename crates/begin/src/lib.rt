@@ -29,7 +29,11 @@ pub struct Begun {
 pub fn next_number(used: u8) -> u8
     ensures { λ o. ⌜ o ≡ nextNumber used ⌝ }
 {
-    if used < 255 { used + 1 } else { 0 }
+    if (used as usize) < Machine::CHANGES {
+        used + 1
+    } else {
+        0
+    }
 }
 
 fn info_in(n: u8, i: u8, link: Link) -> u8
@@ -41,8 +45,8 @@ fn info_in(n: u8, i: u8, link: Link) -> u8
 fn old_in(links: Links, written: u8, field: u8) -> Cell
     ensures { λ o. ⌜ o ≡ oldIn links written field ⌝ }
 {
-    if written < 4 {
-        let k = written as usize;
+    let k = written as usize;
+    if k < Machine::LIST {
         let link = links[k];
         let cells = link.cells;
         four::cell_at(cells, field)

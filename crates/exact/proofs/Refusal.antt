@@ -15,7 +15,7 @@ use Rattle.table.specs.declared.Ask.the-variants.{Llx as AskLlx, Scx as AskScx,
 use Rattle.table.specs.declared.Call.{Call}
 use Rattle.table.specs.declared.Check.{Check}
 use Rattle.table.specs.declared.Check.the-variants.{Passed, Failed}
-use Rattle.table.specs.declared.Refusal.the-variants.{NoSuchTask, TaskBusy, TaskIdle, ListLength, NoSuchRecord, RecordTwice, OutsideList, NoLink, NumbersUsed}
+use Rattle.table.specs.declared.Refusal.the-variants.{NoSuchTask, TaskBusy, TaskIdle, ListLength, NoSuchRecord, RecordTwice, PlaceOrField, NoLink, NumbersUsed}
 use Rattle.table.specs.Table.{pick, taskAt, slot, linkAt, noLink}
 use Rattle.rules.specs.Claim.{allBelow, test}
 use Rattle.rules.specs.Shape.{within, exist, apart, InShape}
@@ -77,7 +77,7 @@ module _ (m : Machine) (few : m .n ≤ 32) where
   refusal-same small t (AskScx n r written field new) l =
       pick-same (ltb t (m .p)) _ _ _
       (λ h. list-same n l
-      (λ linked. pick (test 0 (inside n r written field)) (pick linked (pick (ltb (m .used) 255) Passed (Failed NumbersUsed)) (Failed NoLink)) (Failed OutsideList)) (t % 8) t (unclipped t small h))
+      (λ linked. pick (test 0 (inside n r written field)) (pick linked (pick (ltb (m .used) 255) Passed (Failed NumbersUsed)) (Failed NoLink)) (Failed PlaceOrField)) (t % 8) t (unclipped t small h))
   refusal-same small t (AskVlx n) l =
       pick-same (ltb t (m .p)) _ _ _ (λ h. list-same n l (λ linked. pick linked Passed (Failed NoLink)) (t % 8) t (unclipped t small h))
   refusal-same small t (AskRead r f) l = pick-same (ltb t (m .p)) _ _ _ (λ h. rw (unclipped t small h) refl)

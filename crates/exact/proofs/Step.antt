@@ -84,7 +84,7 @@ module _ (m : Machine) (t : ℕ) where
           links = dropFirst (set (m .links) (slot t r) (linkBy (linkAt m t r) x s v)) t l (v .drop);
         };
         answer = v .answer;
-        cells = pick (v .keep) (x .cells) noCells;
+        cells = pick (v .store) (x .cells) noCells;
       }
 
   -- the same links are dropped by a list that agrees as far as they go

@@ -11,30 +11,22 @@ use table::Machine;
 pub fn number_at(v: List, i: u8) -> u8
     ensures { λ o. ⌜ o ≡ getD v i 0 ⌝ }
 {
-    if i < 4 {
-        let k = i as usize;
-        v[k]
-    } else {
-        0
-    }
+    let k = i as usize;
+    if k < Machine::LIST { v[k] } else { 0 }
 }
 
 pub fn bool_at(v: [bool; Machine::LIST], i: u8) -> bool
     ensures { λ o. ⌜ o ≡ getD v i false ⌝ }
 {
-    if i < 4 {
-        let k = i as usize;
-        v[k]
-    } else {
-        false
-    }
+    let k = i as usize;
+    if k < Machine::LIST { v[k] } else { false }
 }
 
 pub fn cell_at(v: Cells, i: u8) -> Cell
     ensures { λ o. ⌜ o ≡ cellAt v i ⌝ }
 {
-    if i < 4 {
-        let k = i as usize;
+    let k = i as usize;
+    if k < Machine::FIELDS {
         v[k]
     } else {
         Cell { value: 0, stamp: 0 }
@@ -44,8 +36,8 @@ pub fn cell_at(v: Cells, i: u8) -> Cell
 pub fn with_cell(v: Cells, i: u8, c: Cell) -> Cells
     ensures { λ o. ⌜ o ≡ set v i c ⌝ }
 {
-    if i < 4 {
-        let k = i as usize;
+    let k = i as usize;
+    if k < Machine::FIELDS {
         let mut out = v;
         out[k] = c;
         out

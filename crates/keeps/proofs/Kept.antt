@@ -14,8 +14,8 @@ use Rattle.keeps.proofs.Scx.{scx-keeps}
 use Rattle.keeps.proofs.Obeyed.{Obeyed, passed}
 use Rattle.table.specs.Table.{linkAt}
 use Rattle.rules.specs.Claim.{Says}
-use Rattle.rules.specs.Shape.{listFine, shape, inShape, InShape}
-use Rattle.rules.specs.Refuse.{allLinked, check, rules, idleAt, linkedAt, rulesOf}
+use Rattle.rules.specs.Shape.{listFine, allLinked, shape, inShape, InShape}
+use Rattle.rules.specs.Refuse.{check, rules, idleAt, linkedAt, rulesOf}
 use Rattle.rules.specs.Next.{refused, started, accepted, answered, next}
 use Rattle.rules.proofs.Exact.{told, passes}
 

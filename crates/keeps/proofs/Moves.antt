@@ -18,7 +18,7 @@ use Rattle.keeps.proofs.Places.{relinked}
 use Rattle.keeps.proofs.Acts.{Claimed, seenFrom}
 use Rattle.table.specs.Table.{pick, noCell, recordAt, changeAt, stateOf}
 use Rattle.rules.specs.Access.{changeOf}
-use Rattle.rules.specs.Resume.{on, onWith, done, snapshot, noDropping, afterL4, afterL5, afterL6, afterL7, afterL8, afterL10, afterL11}
+use Rattle.rules.specs.Resume.{on, onWith, done, snapshot, noAndDrop, afterL4, afterL5, afterL6, afterL7, afterL8, afterL10, afterL11}
 use Rattle.rules.specs.Resume.{verdict, afterHeld, isFrom, firstFrom, atMark, afterVlx, resume}
 use Rattle.rules.specs.Claim.{Says}
 use Rattle.rules.specs.Shape.{stampsKnown, afterFine}
@@ -51,7 +51,7 @@ joins used cs f c cl h n nl j q = stored (λ (x : Cell). x .stamp ≤ used) cs f
 pub record MoveFine (m : Machine) (linked : ℕ → Bool) (cs : List Cell) (l : List ℕ) (s : Seen) (v : Move) : Type 0 where
   pub place-fine : (linked' : ℕ → Bool) → (v .drop ≡ 0 → (r : ℕ) → r < m .n → linked r ≡ true → linked' r ≡ true)
       → Claimed m linked' (set cs (v .field) (s .cell)) l (v .place)
-  pub link-fine : v .keep ≡ true → (s .number ≤ m .used) × Says (m .used) (stampsKnown 4 cs)
+  pub link-fine : v .store ≡ true → (s .number ≤ m .used) × Says (m .used) (stampsKnown 4 cs)
   pub drop≤4 : v .drop ≤ 4
   pub list-fine : (k : ℕ) → k < v .drop → getD l k 0 < m .n
 
@@ -153,7 +153,7 @@ module _ (m : Machine) (F : Fine m) (linked : ℕ → Bool) (cs : List Cell) (l 
 
   after-vlx : {s : Seen} (n i now info : ℕ) → Claimed m linked cs l (Vlx n i) → Moved s (afterVlx n i now info)
   after-vlx {s} n i now info h =
-      picked (Moved s) (eqb now info) (pick (ltb (i + 1) n) (on (Vlx n (i + 1))) (done Yes)) (noDropping n)
+      picked (Moved s) (eqb now info) (pick (ltb (i + 1) n) (on (Vlx n (i + 1))) (done Yes)) (noAndDrop n)
       (λ e. picked (Moved s) (ltb (i + 1) n) (on (Vlx n (i + 1))) (done Yes)
       (λ f. on-fine (Vlx n (i + 1)) (ltb-true (i + 1) n f, h .1)) (λ f. done-fine Yes))
       (λ e. let k = h .1 .0 .0 .1 in

@@ -56,7 +56,7 @@ module _ (m : Machine) (F : Fine m) (t : ℕ) (tl : t < m .p) (a : Access) (s : 
   below-32 r l = omega (arith, F .n<33)
 
   link-fine : Linked link
-  link-fine = picked Linked (v .keep) new (linkAt m t (recordOf a)) (λ e f. M .link-fine e) (λ e. F .link-fine t tl (recordOf a) (A .0))
+  link-fine = picked Linked (v .store) new (linkAt m t (recordOf a)) (λ e f. M .link-fine e) (λ e. F .link-fine t tl (recordOf a) (A .0))
 
   links-fine : (j : ℕ) → j < m .p → (r : ℕ) → r < m .n → Linked (getD links (slot j r) noLink)
   links-fine j jl r rl =
@@ -77,7 +77,7 @@ module _ (m : Machine) (F : Fine m) (t : ℕ) (tl : t < m .p) (a : Access) (s : 
   unfolding dropFirst
   own-stay e r rl h =
       rw e
-      (any There (m .links) at link noLink (slot t r) (λ f. picked There (v .keep) new (linkAt m t (recordOf a)) (λ g. refl) (λ g. rw f at h)) h)
+      (any There (m .links) at link noLink (slot t r) (λ f. picked There (v .store) new (linkAt m t (recordOf a)) (λ g. refl) (λ g. rw f at h)) h)
 
   -- what an access does not alter of a change is as it was
   same : {B : Type 0} (f : Change → B) → ((y : Change) → f (changeBy a y) ≡ f y) → (u : ℕ) → f (getD changes u noChange) ≡ f (changeAt m u)

@@ -76,14 +76,14 @@ pub fn list_fine(records: u8, n: u8, list: List) -> bool
 }
 
 // If place i is in R, it is below n.
-fn place_in_list(n: u8, r: [bool; 4], i: u8) -> bool
+fn place_in_list(n: u8, r: [bool; Machine::LIST], i: u8) -> bool
     ensures { λ o. ⌜ o ≡ given (getD r i false) (ltb i n) ⌝ }
 {
     if four::bool_at(r, i) { i < n } else { true }
 }
 
 // R names only places below n.
-pub fn in_list(n: u8, r: [bool; 4]) -> bool
+pub fn in_list(n: u8, r: [bool; Machine::LIST]) -> bool
     ensures { λ o. ⌜ o ≡ test 0 (spec.inList n r) ⌝ }
 {
     let mut i = 0;
@@ -97,7 +97,7 @@ pub fn in_list(n: u8, r: [bool; 4]) -> bool
 }
 
 // Each of the first n has a link.
-pub fn all_linked(n: u8, there: [bool; 4]) -> bool
+pub fn all_linked(n: u8, there: [bool; Machine::LIST]) -> bool
     ensures { λ o. ⌜ o ≡ allBelow n (λ i. getD there i false) ⌝ }
 {
     let mut i = 0;

@@ -51,7 +51,7 @@ pub fn llx(m: Machine, t: u8, r: u8) -> Out
     )
 }
 
-// Starts SCX of the first n records of the list: R is a bit for each place, and the field of the written place gets the new value.
+// Starts SCX of the first n records of the list: R is a bit for each place, and the field of the written place is to get the new value.
 pub fn scx(m: Machine, t: u8, n: u8, list: List, r: u8, written: u8, field: u8, new: u16) -> Out
     ensures { λ o. ⌜ o ≡ rules.next m (rules.scx t n list r written field new) ⌝ }
 {

@@ -34,7 +34,11 @@ fn inside(n: u8, r: u8, written: u8, field: u8) -> bool
     ensures { λ o. ⌜ o ≡ test 0 (inside n r written field) ⌝ }
 {
     if written < n {
-        if set_inside(n, r) { field < 4 } else { false }
+        if set_inside(n, r) {
+            (field as usize) < Machine::FIELDS
+        } else {
+            false
+        }
     } else {
         false
     }
@@ -70,9 +74,13 @@ fn of_scx(
 ) -> Check
     ensures { λ o. ⌜ o ≡ check (rules p n used idle linked t (AskScx k r written field 0) list) ⌝ }
 {
-    let c19 = unless(Refusal::NumbersUsed, used < 255, Check::Passed);
+    let c19 = unless(
+        Refusal::NumbersUsed,
+        (used as usize) < Machine::CHANGES,
+        Check::Passed,
+    );
     let c18 = unless(Refusal::NoLink, linked, c19);
-    let c17 = unless(Refusal::OutsideList, inside(k, r, written, field), c18);
+    let c17 = unless(Refusal::PlaceOrField, inside(k, r, written, field), c18);
     let c16 = unless(Refusal::RecordTwice, lists::apart(k, list), c17);
     let c15 = unless(Refusal::NoSuchRecord, lists::exist(n, k, list), c16);
     let c14 = unless(Refusal::ListLength, lists::length_fine(k), c15);
@@ -94,7 +102,11 @@ fn of_vlx(p: u8, n: u8, idle: bool, linked: bool, t: u8, k: u8, list: List) -> C
 fn of_read(p: u8, n: u8, idle: bool, t: u8, r: u8, f: u8) -> Check
     ensures { λ o. ⌜ o ≡ check (rules p n 0 idle false t (AskRead r f) []) ⌝ }
 {
-    let c17 = unless(Refusal::OutsideList, f < 4, Check::Passed);
+    let c17 = unless(
+        Refusal::PlaceOrField,
+        (f as usize) < Machine::FIELDS,
+        Check::Passed,
+    );
     let c15 = unless(Refusal::NoSuchRecord, r < n, c17);
     let c12 = unless(Refusal::TaskBusy, idle, c15);
     unless(Refusal::NoSuchTask, t < p, c12)

@@ -14,7 +14,7 @@ use llx::after_l8;
 use llx::after_l10;
 use llx::after_l11;
 use moves::done;
-use moves::no_dropping;
+use moves::no_and_drop;
 use moves::on;
 use moves::on_with;
 use table::Answer;
@@ -40,7 +40,7 @@ fn after_vlx(n: u8, i: u8, now: u8, linked: u8) -> Move
             done(Answer::Yes)
         }
     } else {
-        no_dropping(n)
+        no_and_drop(n)
     }
 }
 

@@ -1,6 +1,6 @@
 // The moves that a step can make: on to a place, or done with an answer.
 ghost use mathlib.Core.Path.{_≡_};
-ghost use Rattle.rules.specs.Resume.{on, onWith, done, snapshot, noDropping};
+ghost use Rattle.rules.specs.Resume.{on, onWith, done, snapshot, noAndDrop};
 use table::Answer;
 use table::Move;
 use table::Place;
@@ -12,7 +12,7 @@ pub fn on(q: Place) -> Move
         place: q,
         answer: Answer::Accepted,
         field: 4,
-        keep: false,
+        store: false,
         drop: 0,
     }
 }
@@ -25,7 +25,7 @@ pub fn on_with(q: Place, f: u8) -> Move
         place: q,
         answer: Answer::Accepted,
         field: f,
-        keep: false,
+        store: false,
         drop: 0,
     }
 }
@@ -37,7 +37,7 @@ pub fn done(a: Answer) -> Move
         place: Place::Idle,
         answer: a,
         field: 4,
-        keep: false,
+        store: false,
         drop: 0,
     }
 }
@@ -50,20 +50,20 @@ pub fn snapshot() -> Move
         place: Place::Idle,
         answer: Answer::Snapshot,
         field: 4,
-        keep: true,
+        store: true,
         drop: 0,
     }
 }
 
 // No, the links to the n records of the list dropped.
-pub fn no_dropping(n: u8) -> Move
-    ensures { λ o. ⌜ o ≡ noDropping n ⌝ }
+pub fn no_and_drop(n: u8) -> Move
+    ensures { λ o. ⌜ o ≡ noAndDrop n ⌝ }
 {
     Move {
         place: Place::Idle,
         answer: Answer::No,
         field: 4,
-        keep: false,
+        store: false,
         drop: n,
     }
 }

@@ -4,7 +4,7 @@ use Prim.Native.Nat.{ℕ}
 use native.Mathlib.Omega.{arith}
 use mathlib.Core.Path.{_≡_, refl, ap}
 use mathlib.Core.Bool.{Bool, true, false}
-use mathlib.Core.List.{List, [], _∷_, _++_}
+use mathlib.Core.List.{List, [], _∷_, _++_, map}
 use lib.Dec.{ltb}
 use Rattle.rules.specs.Words.{Machine, Call, Refusal, Check, Passed, Failed}
 use Rattle.rules.specs.Words.{Ask, AskLlx, AskScx, AskVlx, AskRead, AskStep}
@@ -56,3 +56,26 @@ from-11 P N used idle linked t AskStep l = refl
 pub in-order : (m : Machine) (e : Call) → rising 9 (rulesOf m e) ≡ true
 unfolding rulesOf
 in-order m e = from-11 (m .p) (m .n) (m .used) _ _ (e .task) (e .ask) (e .list)
+
+-- "LLX can meet 10, 11, 12, 15; READ these and 17; VLX 10 to 12, 14 to 16, 18; SCX 10 to 12, 14 to 19; STEP 10, 11, 13."
+abbrev pub meets : Ask → List ℕ
+meets (AskLlx r) = 10 ∷ 11 ∷ 12 ∷ 15 ∷ []
+meets (AskScx n r written field new) = 10 ∷ 11 ∷ 12 ∷ 14 ∷ 15 ∷ 16 ∷ 17 ∷ 18 ∷ 19 ∷ []
+meets (AskVlx n) = 10 ∷ 11 ∷ 12 ∷ 14 ∷ 15 ∷ 16 ∷ 18 ∷ []
+meets (AskRead r f) = 10 ∷ 11 ∷ 12 ∷ 15 ∷ 17 ∷ []
+meets AskStep = 10 ∷ 11 ∷ 13 ∷ []
+
+pub numbers : List Rule → List ℕ
+numbers rs = map (λ (x : Rule). refusalNumber (x .why)) rs
+
+after-10 : (P N used : ℕ) (idle linked : Bool) (t : ℕ) (ask : Ask) (l : List ℕ) → 10 ∷ numbers (rules P N used idle linked t ask l) ≡ meets ask
+unfolding numbers
+after-10 P N used idle linked t (AskLlx r) l = refl
+after-10 P N used idle linked t (AskScx n r written field new) l = refl
+after-10 P N used idle linked t (AskVlx n) l = refl
+after-10 P N used idle linked t (AskRead r f) l = refl
+after-10 P N used idle linked t AskStep l = refl
+
+pub can-meet : (m : Machine) (e : Call) → numbers (rulesOf m e) ≡ meets (e .ask)
+unfolding rulesOf numbers
+can-meet m e = after-10 (m .p) (m .n) (m .used) _ _ (e .task) (e .ask) (e .list)

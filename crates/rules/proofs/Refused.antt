@@ -14,7 +14,7 @@ use Rattle.rules.specs.Words.{Ask, AskLlx, AskScx, AskVlx, AskRead, AskS
 use Rattle.rules.specs.Words.{Refusal, OutOfShape, NoSuchTask, TaskIdle}
 use Rattle.rules.specs.Words.{Answer, Accepted, Snapshot, Finalized, Fail, Yes, No, Value, Refused}
 use Rattle.table.specs.Table.{pick, changeAt, taskAt, noChange}
-use Rattle.rules.specs.Resume.{on, done, snapshot, noDropping, verdict, afterL7, afterL10, resume}
+use Rattle.rules.specs.Resume.{on, done, snapshot, noAndDrop, verdict, afterL4, afterL7, afterL8, afterL10, afterHeld, firstFrom, resume}
 use Rattle.rules.specs.Step.{moveAt, step}
 use Rattle.rules.specs.Start.{filled, start}
 use Rattle.rules.specs.Refuse.{unless, isIdle, check, rules, idleAt, linkedAt, rulesOf}
@@ -32,59 +32,94 @@ isRefusal No = false
 isRefusal (Value cell) = false
 isRefusal (Refused why) = true
 
--- a move that answers no refusal
-abbrev Plain : Move → Type 0
-Plain v = isRefusal (v .answer) ≡ false
+abbrev pub isAccepted : Answer → Bool
+isAccepted Accepted = true
+isAccepted Snapshot = false
+isAccepted Finalized = false
+isAccepted Fail = false
+isAccepted Yes = false
+isAccepted No = false
+isAccepted (Value cell) = false
+isAccepted (Refused why) = false
+
+-- a move that answers no refusal, and is idle exactly if its answer is not 0
+pub record Plain (v : Move) : Type 0 where
+  pub no-refusal : isRefusal (v .answer) ≡ false
+  pub ends : isIdle (v .place) ≡ not (isAccepted (v .answer))
 
 either : (b : Bool) (v w : Move) → Plain v → Plain w → Plain (pick b v w)
 either true v w h k = h
 either false v w h k = k
 
 plain-verdict : (ok : Bool) (after : After) → Plain (verdict ok after)
-plain-verdict true Own = refl
-plain-verdict false Own = refl
-plain-verdict true (AtL8 r true) = refl
-plain-verdict true (AtL8 r false) = refl
-plain-verdict false (AtL8 r m1) = refl
-plain-verdict ok AtL11 = refl
+plain-verdict true Own = record { no-refusal = refl; ends = refl }
+plain-verdict false Own = record { no-refusal = refl; ends = refl }
+plain-verdict true (AtL8 r true) = record { no-refusal = refl; ends = refl }
+plain-verdict true (AtL8 r false) = record { no-refusal = refl; ends = refl }
+plain-verdict false (AtL8 r m1) = record { no-refusal = refl; ends = refl }
+plain-verdict ok AtL11 = record { no-refusal = refl; ends = refl }
 
 plain-l7 : (r : ℕ) (m1 : Bool) (a : ℕ) (s : State) → Plain (afterL7 r m1 a s)
-plain-l7 r m1 a InProgress = refl
-plain-l7 r true a Committed = refl
-plain-l7 r false a Committed = refl
-plain-l7 r m1 a Aborted = refl
+plain-l7 r m1 a InProgress = record { no-refusal = refl; ends = refl }
+plain-l7 r true a Committed = record { no-refusal = refl; ends = refl }
+plain-l7 r false a Committed = record { no-refusal = refl; ends = refl }
+plain-l7 r m1 a Aborted = record { no-refusal = refl; ends = refl }
 
 plain-l10 : (r : ℕ) (s : State) → Plain (afterL10 r s)
-plain-l10 r InProgress = refl
-plain-l10 r Committed = refl
-plain-l10 r Aborted = refl
+plain-l10 r InProgress = record { no-refusal = refl; ends = refl }
+plain-l10 r Committed = record { no-refusal = refl; ends = refl }
+plain-l10 r Aborted = record { no-refusal = refl; ends = refl }
+
+-- on to a place that is not idle
+going : (q : Place) → isIdle q ≡ false → Plain (on q)
+going q h = record { no-refusal = refl; ends = h }
+
+one-of : (b : Bool) (q r : Place) → isIdle q ≡ false → isIdle r ≡ false → isIdle (pick b q r) ≡ false
+one-of true q r h k = h
+one-of false q r h k = k
+
+busy-l4 : (r : ℕ) (m1 : Bool) (a : ℕ) (s : State) (m2 : Bool) → isIdle (afterL4 r m1 a s m2) ≡ false
+busy-l4 r m1 a InProgress m2 = refl
+busy-l4 r m1 a Committed false = refl
+busy-l4 r m1 a Committed true = refl
+busy-l4 r m1 a Aborted m2 = refl
+
+busy-l8 : (r : ℕ) (m1 : Bool) (a : ℕ) (s : State) → isIdle (afterL8 r m1 a s) ≡ false
+busy-l8 r m1 a InProgress = refl
+busy-l8 r m1 a Committed = refl
+busy-l8 r m1 a Aborted = refl
+
+busy-held : (u i n : ℕ) (after : After) → isIdle (afterHeld u i n after) ≡ false
+busy-held u i n after = one-of (ltb (i + 1) n) (H1 u (i + 1) after) (H5 u after) refl refl
 
 -- a step of a busy task answers no refusal
-plain : (q : Place) (s : Seen) (ch : Change) (linked : ℕ) → isIdle q ≡ false → Plain (resume q s ch linked)
+pub plain : (q : Place) (s : Seen) (ch : Change) (linked : ℕ) → isIdle q ≡ false → Plain (resume q s ch linked)
 plain Idle s ch linked h = absurd (true≢false h)
-plain (L1 r) s ch linked h = refl
-plain (L2 r m1) s ch linked h = refl
-plain (L3 r m1 a) s ch linked h = refl
-plain (L4 r m1 a read) s ch linked h = refl
-plain (L5 r m1 a f) s ch linked h = refl
-plain (L6 r m1 a) s ch linked h = either (eqb (s .number) a) snapshot (on (L7 r m1 a)) refl refl
+plain (L1 r) s ch linked h = record { no-refusal = refl; ends = refl }
+plain (L2 r m1) s ch linked h = record { no-refusal = refl; ends = refl }
+plain (L3 r m1 a) s ch linked h = record { no-refusal = refl; ends = refl }
+plain (L4 r m1 a read) s ch linked h = going _ (busy-l4 r m1 a read (s .bit))
+plain (L5 r m1 a f) s ch linked h =
+    record { no-refusal = refl; ends = one-of (ltb f 3) (L5 r m1 a (f + 1)) (L6 r m1 a) refl refl }
+plain (L6 r m1 a) s ch linked h = either (eqb (s .number) a) snapshot (on (L7 r m1 a)) (record { no-refusal = refl; ends = refl }) (record { no-refusal = refl; ends = refl })
 plain (L7 r m1 a) s ch linked h = plain-l7 r m1 a (s .state)
-plain (L8 r m1 a) s ch linked h = refl
-plain (L9 r) s ch linked h = refl
+plain (L8 r m1 a) s ch linked h = going _ (busy-l8 r m1 a (s .state))
+plain (L9 r) s ch linked h = record { no-refusal = refl; ends = refl }
 plain (L10 r b) s ch linked h = plain-l10 r (s .state)
-plain (L11 r) s ch linked h = either (eqb (s .number) 0) (done Fail) (on (H1 (s .number) 0 AtL11)) refl refl
-plain (H1 u i after) s ch linked h = refl
-plain (H2 u i after) s ch linked h = refl
-plain (H3 u after) s ch linked h = either (s .bit) (verdict true after) (on (H4 u after)) (plain-verdict true after) refl
+plain (L11 r) s ch linked h = either (eqb (s .number) 0) (done Fail) (on (H1 (s .number) 0 AtL11)) (record { no-refusal = refl; ends = refl }) (record { no-refusal = refl; ends = refl })
+plain (H1 u i after) s ch linked h = going _ (one-of (s .bit) (afterHeld u i (ch .n) after) (H2 u i after) (busy-held u i (ch .n) after) refl)
+plain (H2 u i after) s ch linked h =
+    going _ (one-of (eqb (s .number) u) (afterHeld u i (ch .n) after) (H3 u after) (busy-held u i (ch .n) after) refl)
+plain (H3 u after) s ch linked h = either (s .bit) (verdict true after) (on (H4 u after)) (plain-verdict true after) (record { no-refusal = refl; ends = refl })
 plain (H4 u after) s ch linked h = plain-verdict false after
-plain (H5 u after) s ch linked h = refl
-plain (H6 u i after) s ch linked h = refl
-plain (H7 u after) s ch linked h = refl
+plain (H5 u after) s ch linked h = going _ (one-of (ltb (firstFrom (ch .r) 0) 4) (H6 u _ after) (H7 u after) refl refl)
+plain (H6 u i after) s ch linked h = going _ (one-of (ltb (firstFrom (ch .r) (i + 1)) 4) (H6 u _ after) (H7 u after) refl refl)
+plain (H7 u after) s ch linked h = record { no-refusal = refl; ends = refl }
 plain (H8 u after) s ch linked h = plain-verdict true after
 plain (Vlx n i) s ch linked h =
-    either (eqb (s .number) linked) (pick (ltb (i + 1) n) (on (Vlx n (i + 1))) (done Yes)) (noDropping n)
-    (either (ltb (i + 1) n) (on (Vlx n (i + 1))) (done Yes) refl refl) refl
-plain (Read r f) s ch linked h = refl
+    either (eqb (s .number) linked) (pick (ltb (i + 1) n) (on (Vlx n (i + 1))) (done Yes)) (noAndDrop n)
+    (either (ltb (i + 1) n) (on (Vlx n (i + 1))) (done Yes) (record { no-refusal = refl; ends = refl }) (record { no-refusal = refl; ends = refl })) (record { no-refusal = refl; ends = refl })
+plain (Read r f) s ch linked h = record { no-refusal = refl; ends = refl }
 
 -- what an accepted call answers is no refusal
 plain-accepted : (m : Machine) (t : ℕ) (ask : Ask) (l : List ℕ) → (ask ≡ AskStep → idleAt m t ≡ false) → isRefusal (accepted m t ask l .answer) ≡ false
@@ -93,7 +128,7 @@ plain-accepted m t (AskLlx r) l h = refl
 plain-accepted m t (AskScx n r written field new) l h = refl
 plain-accepted m t (AskVlx n) l h = refl
 plain-accepted m t (AskRead r f) l h = refl
-plain-accepted m t AskStep l h = plain (taskAt m t .place) _ _ _ (h refl)
+plain-accepted m t AskStep l h = plain (taskAt m t .place) _ _ _ (h refl) .no-refusal
 
 -- a STEP that passes its rules is of a busy task
 busy : (inside known idle : Bool) (why other more : Refusal) → pick inside (pick known (pick (not idle) Passed (Failed why)) (Failed other)) (Failed more) ≡ Passed → idle ≡ false

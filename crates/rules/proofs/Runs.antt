@@ -11,7 +11,13 @@ use Rattle.rules.specs.Start.{start}
 use Rattle.rules.specs.Refuse.{linkedAt, rulesOf}
 use Rattle.rules.specs.Next.{refused, started, next, after, said}
 use Rattle.rules.specs.Runs.{stated, played, runs}
+use Rattle.rules.specs.MoreRuns.{more}
 
 pub as-stated : map played runs ≡ map stated runs
 unfolding tabulate sameCell freshRecords freshMachine fresh seen perform dropFirst settle accessAt moveAt step both given allBelow shape inShape start linkedAt rulesOf refused started next after said played runs
 as-stated = refl
+
+-- the same of the rows beyond those
+pub more-as-stated : map played more ≡ map stated more
+unfolding tabulate sameCell freshRecords freshMachine fresh seen perform dropFirst settle accessAt moveAt step both given allBelow shape inShape start linkedAt rulesOf refused started next after said played more
+more-as-stated = refl

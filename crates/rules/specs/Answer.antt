@@ -1,7 +1,7 @@
 -- NUMBERS THAT COME BACK: document 01's number and values for each answer.
 use Prim.Native.Nat.{ℕ}
 use mathlib.Core.List.{List, [], _∷_, map}
-use Rattle.rules.specs.Words.{Cell, Refusal, OutOfShape, NoSuchTask, TaskBusy, TaskIdle, ListLength, NoSuchRecord, RecordTwice, OutsideList, NoLink, NumbersUsed}
+use Rattle.rules.specs.Words.{Cell, Refusal, OutOfShape, NoSuchTask, TaskBusy, TaskIdle, ListLength, NoSuchRecord, RecordTwice, PlaceOrField, NoLink, NumbersUsed}
 use Rattle.rules.specs.Words.{SheetSize, SheetTag, Counts, Distance, EventKind, BufferShort}
 use Rattle.rules.specs.Words.{Answer, Accepted, Snapshot, Finalized, Fail, Yes, No, Value, Refused}
 
@@ -13,7 +13,7 @@ refusalNumber TaskIdle = 13
 refusalNumber ListLength = 14
 refusalNumber NoSuchRecord = 15
 refusalNumber RecordTwice = 16
-refusalNumber OutsideList = 17
+refusalNumber PlaceOrField = 17
 refusalNumber NoLink = 18
 refusalNumber NumbersUsed = 19
 refusalNumber SheetSize = 20

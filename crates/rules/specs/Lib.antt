@@ -10,3 +10,4 @@ pub mod Refuse
 pub mod Answer
 pub mod Next
 pub mod Runs
+pub mod MoreRuns

@@ -49,10 +49,13 @@ stepping t = record { task = t; ask = AskStep; list = replicate 4 0 }
 abbrev pub Said : Type 0
 Said = ℕ × List ℕ
 
+abbrev pub reports : Out → Said
+reports o = (number (o .answer), values (o .answer) (o .cells))
+
 unfoldable pub after : Machine → List Call → Machine
 after m [] = m
 after m (e ∷ es) = after (next m e .m) es
 
 unfoldable pub said : Machine → List Call → List Said
 said m [] = []
-said m (e ∷ es) = let o = next m e in (number (o .answer), values (o .answer) (o .cells)) ∷ said (o .m) es
+said m (e ∷ es) = let o = next m e in reports o ∷ said (o .m) es

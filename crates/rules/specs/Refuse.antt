@@ -1,15 +1,14 @@
 -- THE REFUSALS of the calls, each with when it applies, and for each call those that it can meet, in the order of their numbers:
 -- "Each is given exactly then, the lowest that applies to the call."
-use Prim.Native.Nat.{ℕ}
+use Prim.Native.Nat.{ℕ, _^_}
 use mathlib.Core.Bool.{Bool, true, false, not}
 use mathlib.Core.List.{List, [], _∷_}
-use lib.ListN.{getD}
-use Rattle.rules.specs.Words.{Refusal, OutOfShape, NoSuchTask, TaskBusy, TaskIdle, ListLength, NoSuchRecord, RecordTwice, OutsideList, NoLink, NumbersUsed}
+use Rattle.rules.specs.Words.{Refusal, OutOfShape, NoSuchTask, TaskBusy, TaskIdle, ListLength, NoSuchRecord, RecordTwice, PlaceOrField, NoLink, NumbersUsed}
 use Rattle.rules.specs.Words.{Place, Idle, L1, L2, L3, L4, L5, L6, L7, L8, L9, L10, L11, H1, H2, H3, H4, H5, H6, H7, H8, Vlx, Read}
 use Rattle.rules.specs.Words.{Machine, Ask, AskLlx, AskScx, AskVlx, AskRead, AskStep, Call, Check, Passed, Failed}
-use Rattle.table.specs.Table.{pick, taskAt, linkAt, maxList, maxChanges}
-use Rattle.rules.specs.Claim.{Claim, less, holds, _&_, each, test}
-use Rattle.rules.specs.Shape.{within, exist, apart, inList, inShape}
+use Rattle.table.specs.Table.{pick, taskAt, linkAt, maxList, maxFields, maxChanges}
+use Rattle.rules.specs.Claim.{Claim, less, holds, _&_, test}
+use Rattle.rules.specs.Shape.{within, exist, apart, allLinked, inList, inShape}
 use Rattle.rules.specs.Start.{places}
 
 abbrev pub isIdle : Place → Bool
@@ -38,18 +37,15 @@ isIdle (Read r f) = false
 
 -- what an SCX writes lies inside: the written place and all of R below n (bits 4 to 7 name places that never are), the field up to 3
 abbrev pub inside : ℕ → ℕ → ℕ → ℕ → Claim
-inside n r written field = less written n & (less r 16 & inList n (places r)) & less field 4
+inside n r written field = less written n & (less r (2 ^ maxList) & inList n (places r)) & less field maxFields
 
--- how many records of its list a call names; each of the first n of a list has a link, by which records do
+-- how many records of its list a call names
 abbrev pub listed : Ask → ℕ
 listed (AskLlx r) = 0
 listed (AskScx n r written field new) = n
 listed (AskVlx n) = n
 listed (AskRead r f) = 0
 listed AskStep = 0
-
-abbrev pub allLinked : ℕ → List ℕ → (ℕ → Bool) → Claim
-allLinked n l linked = each n (λ i. holds (linked (getD l i 0)))
 
 -- a refusal, and the claim that it is given without
 pub record Rule : Type 0 where
@@ -59,7 +55,7 @@ pub record Rule : Type 0 where
 abbrev pub unless : Refusal → Claim → Rule
 unless x c = record { why = x; unless = c }
 
--- the first rule that is broken
+-- the first rule that is broken; no rule speaks of stored numbers, so that it does not matter how many count as used
 abbrev pub check : List Rule → Check
 check [] = Passed
 check (x ∷ xs) = pick (test 0 (x .unless)) (check xs) (Failed (x .why))
@@ -78,7 +74,7 @@ rules P N used idle linked t (AskScx n r written field new) l =
     ∷ unless ListLength (within maxList n)
     ∷ unless NoSuchRecord (exist N n l)
     ∷ unless RecordTwice (apart n l)
-    ∷ unless OutsideList (inside n r written field)
+    ∷ unless PlaceOrField (inside n r written field)
     ∷ unless NoLink (holds linked)
     ∷ unless NumbersUsed (less used maxChanges)
     ∷ []
@@ -94,7 +90,7 @@ rules P N used idle linked t (AskRead r f) l =
     unless NoSuchTask (less t P)
     ∷ unless TaskBusy (holds idle)
     ∷ unless NoSuchRecord (less r N)
-    ∷ unless OutsideList (less f 4)
+    ∷ unless PlaceOrField (less f maxFields)
     ∷ []
 rules P N used idle linked t AskStep l =
     unless NoSuchTask (less t P)

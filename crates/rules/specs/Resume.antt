@@ -11,21 +11,21 @@ use Rattle.table.specs.Table.{pick}
 
 -- on to a place; on, with the cell seen kept as field f; the answer, the task idle
 abbrev pub on : Place → Move
-on q = record { place = q; answer = Accepted; field = 4; keep = false; drop = 0 }
+on q = record { place = q; answer = Accepted; field = 4; store = false; drop = 0 }
 
 abbrev pub onWith : Place → ℕ → Move
-onWith q f = record { place = q; answer = Accepted; field = f; keep = false; drop = 0 }
+onWith q f = record { place = q; answer = Accepted; field = f; store = false; drop = 0 }
 
 abbrev pub done : Answer → Move
-done a = record { place = Idle; answer = a; field = 4; keep = false; drop = 0 }
+done a = record { place = Idle; answer = a; field = 4; store = false; drop = 0 }
 
 -- the snapshot, the link stored
 abbrev pub snapshot : Move
-snapshot = record { place = Idle; answer = Snapshot; field = 4; keep = true; drop = 0 }
+snapshot = record { place = Idle; answer = Snapshot; field = 4; store = true; drop = 0 }
 
 -- no, the links to the n records of the list dropped
-abbrev pub noDropping : ℕ → Move
-noDropping n = record { place = Idle; answer = No; field = 4; keep = false; drop = n }
+abbrev pub noAndDrop : ℕ → Move
+noAndDrop n = record { place = Idle; answer = No; field = 4; store = false; drop = n }
 
 -- "L4 .. If that state was Aborted, or Committed with m2 no, go to L5, else L7"
 abbrev pub afterL4 : ℕ → Bool → ℕ → State → Bool → Place
@@ -105,7 +105,7 @@ atMark u i after = pick (ltb i 4) (H6 u i after) (H7 u after)
 -- "VLX: .. a difference from the link answers no at once and drops the links of all V; after the last, yes, links kept"
 abbrev pub afterVlx : ℕ → ℕ → ℕ → ℕ → Move
 afterVlx n i now linked =
-    pick (eqb now linked) (pick (ltb (i + 1) n) (on (Vlx n (i + 1))) (done Yes)) (noDropping n)
+    pick (eqb now linked) (pick (ltb (i + 1) n) (on (Vlx n (i + 1))) (done Yes)) (noAndDrop n)
 
 -- THE LOCAL WORK of a step at a place, which saw s, names the change ch, and whose link to the record read has the info linked
 abbrev pub resume : Place → Seen → Change → ℕ → Move

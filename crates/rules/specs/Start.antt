@@ -4,16 +4,16 @@ use mathlib.Core.Bool.{Bool, false}
 use mathlib.Core.List.{List, [], _∷_}
 use lib.ListN.{getD, set}
 use lib.Dec.{eqb, ltb}
-use Rattle.rules.specs.Words.{InProgress, Change, Own, Place, L1, H1, Vlx, Read, Task, Machine}
+use Rattle.rules.specs.Words.{InProgress, Change, Own, Place, L1, H1, Vlx, Read, Machine}
 use Rattle.rules.specs.Words.{Ask, AskLlx, AskScx, AskVlx, AskRead, AskStep}
-use Rattle.table.specs.Table.{pick, tabulate, cellAt, taskAt, linkAt}
+use Rattle.table.specs.Table.{pick, tabulate, cellAt, taskAt, linkAt, maxList}
 use Rattle.rules.specs.Step.{dropFirst}
 
 -- the set R of an SCX, a bit for each place, as the bools of places 0 to 3
 abbrev pub places : ℕ → List Bool
 places r = eqb (r % 2) 1 ∷ eqb (r / 2 % 2) 1 ∷ eqb (r / 4 % 2) 1 ∷ eqb (r / 8 % 2) 1 ∷ []
 
--- a task put at a place; a task put at a place with a list; its links to the first n of a list dropped
+-- a task put at a place, with a list; its links to the first n of a list dropped
 abbrev pub atPlace : Machine → ℕ → Place → List ℕ → Machine
 atPlace m t q l =
     record {
@@ -38,7 +38,7 @@ dropping m t l n =
       links = dropFirst (m .links) t l n;
     }
 
--- "fills the change from the links": the infos and the old cell are those of the task's links to V
+-- "fills the change from the links": the infos and the old cell are those of the task's links to V; infos past n are 0
 abbrev pub filled : Machine → ℕ → ℕ → List ℕ → ℕ → ℕ → ℕ → ℕ → Change
 filled m t n l r written field new =
     record {
@@ -51,7 +51,7 @@ filled m t n l r written field new =
       old = cellAt (linkAt m t (getD l written 0) .cells) field;
       state = InProgress;
       frozen = false;
-      infos = tabulate 4 (λ i. pick (ltb i n) (linkAt m t (getD l i 0) .info) 0);
+      infos = tabulate maxList (λ i. pick (ltb i n) (linkAt m t (getD l i 0) .info) 0);
     }
 
 -- "takes the next number"

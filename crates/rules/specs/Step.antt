@@ -15,7 +15,7 @@ taskBy x s v = record { place = v .place; cells = set (x .cells) (v .field) (s .
 
 -- the link to the record read: stored anew with the info seen and the cells kept, or as it was
 abbrev pub linkBy : Link → Task → Seen → Move → Link
-linkBy k x s v = pick (v .keep) (record { there = true; info = s .number; cells = x .cells }) k
+linkBy k x s v = pick (v .store) (record { there = true; info = s .number; cells = x .cells }) k
 
 -- a link dropped: its info and cells are kept, and looked at no more
 abbrev pub dropped : Link → Link
@@ -59,5 +59,5 @@ step m t =
     record {
       m = settle (perform a m) t (recordOf a) (seen a m) v;
       answer = v .answer;
-      cells = pick (v .keep) (taskAt m t .cells) noCells;
+      cells = pick (v .store) (taskAt m t .cells) noCells;
     }

@@ -16,7 +16,7 @@ pub use Rattle.table.specs.declared.Ask.{Ask}
 pub use Rattle.table.specs.declared.Ask.the-variants.{Llx as AskLlx, Scx as AskScx, Vlx as AskVlx, Read as AskRead, Step as AskStep}
 pub use Rattle.table.specs.declared.Call.{Call}
 pub use Rattle.table.specs.declared.Refusal.{Refusal}
-pub use Rattle.table.specs.declared.Refusal.the-variants.{OutOfShape, NoSuchTask, TaskBusy, TaskIdle, ListLength, NoSuchRecord, RecordTwice, OutsideList, NoLink, NumbersUsed}
+pub use Rattle.table.specs.declared.Refusal.the-variants.{OutOfShape, NoSuchTask, TaskBusy, TaskIdle, ListLength, NoSuchRecord, RecordTwice, PlaceOrField, NoLink, NumbersUsed}
 pub use Rattle.table.specs.declared.Refusal.the-variants.{SheetSize, SheetTag, Counts, Distance, EventKind, BufferShort}
 pub use Rattle.table.specs.declared.Answer.{Answer}
 pub use Rattle.table.specs.declared.Answer.the-variants.{Accepted, Snapshot, Finalized, Fail, Yes, No, Value, Refused}

@@ -47,7 +47,8 @@ fn change_fine(used: u8, records: u8, x: Change) -> bool
     lists::list_fine(records, x.n, v)
         && (lists::in_list(x.n, r)
             && (x.written < x.n
-                && (x.field < 4 && (old.stamp <= used && lists::infos_known(used, x.n, infos)))))
+                && ((x.field as usize) < Machine::FIELDS
+                    && (old.stamp <= used && lists::infos_known(used, x.n, infos)))))
 }
 
 fn task_fine(m: Machine, t: u8) -> bool

@@ -1,6 +1,6 @@
 -- The fresh table: "all idle, no links, no change used", every mark no, every info 0, each value with stamp 0.
 -- Its one refusal is 22: P or N out of range, or other than 4N values; it then holds no task and no record.
-use Prim.Native.Nat.{ℕ, _+_, _*_}
+use Prim.Native.Nat.{ℕ, suc, _+_, _*_}
 use mathlib.Core.List.{List, [], _∷_}
 use mathlib.Core.Bool.{Bool, true, false}
 use lib.ListN.{getD, length, replicate}
@@ -16,7 +16,7 @@ use Rattle.table.specs.declared.State.the-variants.{Aborted}
 use Rattle.table.specs.declared.Place.the-variants.{Idle}
 use Rattle.table.specs.declared.Refusal.the-variants.{Counts}
 use Rattle.table.specs.declared.Answer.the-variants.{Accepted, Refused}
-use Rattle.table.specs.Table.{pick, tabulate, noCell, noCells, maxTasks, maxRecords}
+use Rattle.table.specs.Table.{pick, tabulate, noCell, noCells, maxTasks, maxRecords, maxChanges, maxList, maxFields}
 
 abbrev pub initial : List ℕ → ℕ → Cell
 initial values k = record { value = getD values k 0; stamp = 0 }
@@ -25,7 +25,7 @@ initial values k = record { value = getD values k 0; stamp = 0 }
 abbrev pub freshRecord : List ℕ → ℕ → Record
 freshRecord values r =
     record {
-      cells = initial values (4 * r) ∷ initial values (4 * r + 1) ∷ initial values (4 * r + 2) ∷ initial values (4 * r + 3) ∷ [];
+      cells = initial values (maxFields * r) ∷ initial values (maxFields * r + 1) ∷ initial values (maxFields * r + 2) ∷ initial values (maxFields * r + 3) ∷ [];
       mark = false;
       info = 0;
     }
@@ -34,25 +34,25 @@ abbrev pub emptyRecord : Record
 emptyRecord = record { cells = noCells; mark = false; info = 0 }
 
 unfoldable pub freshRecords : ℕ → List ℕ → List Record
-freshRecords n values = tabulate 32 (λ r. pick (ltb r n) (freshRecord values r) emptyRecord)
+freshRecords n values = tabulate maxRecords (λ r. pick (ltb r n) (freshRecord values r) emptyRecord)
 
 abbrev pub emptyChange : Change
 emptyChange =
     record {
       n = 0;
-      v = replicate 4 0;
-      r = replicate 4 false;
+      v = replicate maxList 0;
+      r = replicate maxList false;
       written = 0;
       field = 0;
       new = 0;
       old = noCell;
       state = Aborted;
       frozen = false;
-      infos = replicate 4 0;
+      infos = replicate maxList 0;
     }
 
 abbrev pub idleTask : Task
-idleTask = record { place = Idle; cells = noCells; list = replicate 4 0 }
+idleTask = record { place = Idle; cells = noCells; list = replicate maxList 0 }
 
 abbrev pub emptyLink : Link
 emptyLink = record { there = false; info = 0; cells = noCells }
@@ -64,9 +64,9 @@ freshMachine p n records =
       n = n;
       used = 0;
       records = records;
-      changes = replicate 256 emptyChange;
-      tasks = replicate 8 idleTask;
-      links = replicate 256 emptyLink;
+      changes = replicate (suc maxChanges) emptyChange;
+      tasks = replicate maxTasks idleTask;
+      links = replicate (maxTasks * maxRecords) emptyLink;
     }
 
 -- k is from 1 to most
@@ -74,10 +74,10 @@ abbrev pub within : ℕ → ℕ → Bool
 within most k = pick (ltb 0 k) (leb k most) false
 
 abbrev pub inRange : ℕ → ℕ → ℕ → Bool
-inRange p n given = pick (within maxTasks p) (pick (within maxRecords n) (eqb given (4 * n)) false) false
+inRange p n given = pick (within maxTasks p) (pick (within maxRecords n) (eqb given (maxFields * n)) false) false
 
 unfoldable pub fresh : ℕ → ℕ → List ℕ → Out
 fresh p n values =
     pick (inRange p n (length values))
     (record { m = freshMachine p n (freshRecords n values); answer = Accepted; cells = noCells })
-    (record { m = freshMachine 0 0 (replicate 32 emptyRecord); answer = Refused Counts; cells = noCells })
+    (record { m = freshMachine 0 0 (replicate maxRecords emptyRecord); answer = Refused Counts; cells = noCells })

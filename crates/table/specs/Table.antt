@@ -1,9 +1,9 @@
--- What stands where in the table. Past an array's end, which no state in shape reaches, the logic's own default stands:
--- zeros, empty lists, an enum's first case.
+-- What stands where in the table. Past an array's end, where no accepted call looks in a state in shape, the logic's own default
+-- stands: zeros, empty lists, an enum's first case. Nothing can be set there.
 use Prim.Native.Nat.{ℕ, zero, suc, _+_, _*_}
 use mathlib.Core.List.{List, [], _∷_}
 use mathlib.Core.Bool.{Bool, true, false}
-use lib.ListN.{getD, set}
+use lib.ListN.{getD}
 use lib.Dec.{eqb}
 use Rattle.table.specs.declared.Cell.{Cell}
 use Rattle.table.specs.declared.Record.{Record}
@@ -14,6 +14,22 @@ use Rattle.table.specs.declared.Link.{Link}
 use Rattle.table.specs.declared.Machine.{Machine}
 use Rattle.table.specs.declared.State.the-variants.{InProgress, Aborted}
 use Rattle.table.specs.declared.Place.the-variants.{Idle}
+
+-- THE LIMITS, "Sizes": tasks 1 to 8, records 1 to 32, change numbers 1 to 255, lists of 1 to 4; four fields a record
+abbrev pub maxTasks : ℕ
+maxTasks = 8
+
+abbrev pub maxRecords : ℕ
+maxRecords = 32
+
+abbrev pub maxChanges : ℕ
+maxChanges = 255
+
+abbrev pub maxList : ℕ
+maxList = 4
+
+abbrev pub maxFields : ℕ
+maxFields = 4
 
 -- a where b holds, else the other
 abbrev pub pick : {A : Type 0} → Bool → A → A → A
@@ -58,7 +74,7 @@ taskAt m t = getD (m .tasks) t noTask
 
 -- where the link of task t to record r stands among the links
 abbrev pub slot : ℕ → ℕ → ℕ
-slot t r = t * 32 + r
+slot t r = t * maxRecords + r
 
 abbrev pub linkAt : Machine → ℕ → ℕ → Link
 linkAt m t r = getD (m .links) (slot t r) noLink
@@ -79,16 +95,3 @@ sameCells a b =
     (pick (sameCell (cellAt a 2) (cellAt b 2)) (sameCell (cellAt a 3) (cellAt b 3)) false)
     false)
     false
-
--- THE LIMITS, "Sizes": tasks 1 to 8, records 1 to 32, change numbers 1 to 255, lists of 1 to 4
-abbrev pub maxTasks : ℕ
-maxTasks = 8
-
-abbrev pub maxRecords : ℕ
-maxRecords = 32
-
-abbrev pub maxChanges : ℕ
-maxChanges = 255
-
-abbrev pub maxList : ℕ
-maxList = 4

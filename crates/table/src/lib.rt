@@ -16,7 +16,7 @@ pub type Cells = [Cell; Machine::FIELDS];
 // A list V of record numbers, of which the first n count.
 pub type List = [u8; Machine::LIST];
 
-// One last on the carrier.
+// A record: four cells, a mark, the info. There is one for each last on the carrier.
 pub struct Record {
     pub cells: Cells,
     pub mark: bool,
@@ -141,7 +141,7 @@ pub enum Refusal {
     ListLength,
     NoSuchRecord,
     RecordTwice,
-    OutsideList,
+    PlaceOrField,
     NoLink,
     NumbersUsed,
     SheetSize,
@@ -195,13 +195,13 @@ pub struct Seen {
     pub state: State,
 }
 
-// The local work that rides on an access: the next place, the answer, the field whose cell is kept (4: none), whether the
-// link is stored, how many links of the task's list are dropped.
+// The local work that rides on an access: the next place, the answer, the field as which the cell seen is kept (4: none), whether
+// the link is stored, how many links of the task's list are dropped.
 pub struct Move {
     pub place: Place,
     pub answer: Answer,
     pub field: u8,
-    pub keep: bool,
+    pub store: bool,
     pub drop: u8,
 }
 
@@ -252,5 +252,5 @@ impl Machine {
 
     pub const FIELDS: usize = 4;
 
-    pub const LINKS: usize = 256;
+    pub const LINKS: usize = Machine::TASKS * Machine::RECORDS;
 }

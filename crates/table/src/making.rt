@@ -31,7 +31,7 @@ fn in_range(p: u8, n: u8, given: usize) -> bool
 {
     if within(Machine::TASKS, p) {
         if within(Machine::RECORDS, n) {
-            given == 4 * (n as usize)
+            given == Machine::FIELDS * (n as usize)
         } else {
             false
         }
@@ -51,7 +51,7 @@ fn fresh_record(values: &[u16], r: usize) -> Record
     requires { ⌜ (r < 32) × (4 * r + 4 ≤ length (now values)) ⌝ }
     ensures { λ o. ⌜ o ≡ freshRecord (now (values .entry)) r ⌝ }
 {
-    let k = 4 * r;
+    let k = Machine::FIELDS * r;
     Record {
         cells: [
             Cell {

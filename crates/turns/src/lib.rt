@@ -23,11 +23,11 @@ use table::Task;
 fn links_of(links: [Link; Machine::LINKS], t: u8, list: List) -> Links
     ensures { λ o. ⌜ o ≡ linksOf links (t % 8) list ⌝ }
 {
-    let at = (t % 8) as usize * 32;
-    let i0 = at + (list[0] % 32) as usize;
-    let i1 = at + (list[1] % 32) as usize;
-    let i2 = at + (list[2] % 32) as usize;
-    let i3 = at + (list[3] % 32) as usize;
+    let at = t as usize % Machine::TASKS * Machine::RECORDS;
+    let i0 = at + list[0] as usize % Machine::RECORDS;
+    let i1 = at + list[1] as usize % Machine::RECORDS;
+    let i2 = at + list[2] as usize % Machine::RECORDS;
+    let i3 = at + list[3] as usize % Machine::RECORDS;
     [links[i0], links[i1], links[i2], links[i3]]
 }
 
@@ -35,11 +35,11 @@ fn links_of(links: [Link; Machine::LINKS], t: u8, list: List) -> Links
 fn drop_links(links: [Link; Machine::LINKS], t: u8, list: List, n: u8) -> [Link; Machine::LINKS]
     ensures { λ o. ⌜ o ≡ dropFirst links (t % 8) (clip list) n ⌝ }
 {
-    let at = (t % 8) as usize * 32;
+    let at = t as usize % Machine::TASKS * Machine::RECORDS;
     let mut left = links;
     let mut j: u8 = 0;
     while j < n {
-        let i = at + (four::number_at(list, j) % 32) as usize;
+        let i = at + four::number_at(list, j) as usize % Machine::RECORDS;
         let mut link = left[i];
         link.there = false;
         left[i] = link;
@@ -55,7 +55,7 @@ pub fn refusal_in(m: Machine, e: Call) -> Check
     let t = e.task;
     let ask = e.ask;
     let list = e.list;
-    let k = (t % 8) as usize;
+    let k = t as usize % Machine::TASKS;
     let task = m.tasks[k];
     let place = task.place;
     let links = m.links;
@@ -71,7 +71,7 @@ fn start_in(m: Machine, e: Call) -> Out
 {
     let t = e.task;
     let list = e.list;
-    let k = (t % 8) as usize;
+    let k = t as usize % Machine::TASKS;
     let task = m.tasks[k];
     let c = begin::next_number(m.used) as usize;
     let ch = m.changes[c];
@@ -98,16 +98,16 @@ fn start_in(m: Machine, e: Call) -> Out
 fn step_in(m: Machine, t: u8) -> Out
     ensures { λ o. ⌜ o ≡ stepIn m (t % 8) ⌝ }
 {
-    let k = (t % 8) as usize;
+    let k = t as usize % Machine::TASKS;
     let task = m.tasks[k];
     let place = task.place;
     let list = task.list;
     let c = access::change_of(place) as usize;
     let ch = m.changes[c];
     let a = access::access_of(place, ch, list);
-    let r = (access::record_of(a) % 32) as usize;
+    let r = access::record_of(a) as usize % Machine::RECORDS;
     let rec = m.records[r];
-    let at = k * 32 + r;
+    let at = k * Machine::RECORDS + r;
     let link = m.links[at];
     let d = act::act(task, a, ch, rec, link);
     let rec2 = d.rec;

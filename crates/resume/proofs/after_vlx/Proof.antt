@@ -16,8 +16,8 @@ on-requires c κs = search needs
 done-requires : tie.Need-done-requires
 done-requires c κs = search needs
 
-no-dropping-requires : tie.Need-no-dropping-requires
-no-dropping-requires c κs = search needs
+no-and-drop-requires : tie.Need-no-and-drop-requires
+no-and-drop-requires c κs = search needs
 
 returns : tie.Need-returns
 returns c = simp (lt-ltb _ _ (c .before .if2 .taken), eq-eqb _ _ (c .before .before .if1 .taken)) (c .on .ensures)
@@ -26,7 +26,7 @@ returns-2 : tie.Need-returns-2
 returns-2 c = simp (le-ltb _ _ (c .before .if2 .left), eq-eqb _ _ (c .before .before .if1 .taken)) (c .done .ensures)
 
 returns-3 : tie.Need-returns-3
-returns-3 c = simp (ne-eqb _ _ (c .before .if1 .left)) (c .no-dropping .ensures)
+returns-3 c = simp (ne-eqb _ _ (c .before .if1 .left)) (c .no-and-drop .ensures)
 
 pub after-vlx-spec : {M : Type 1} → statement M
 after-vlx-spec =
@@ -36,7 +36,7 @@ after-vlx-spec =
     add-t12
     on-requires
     done-requires
-    no-dropping-requires
+    no-and-drop-requires
     returns
     returns-2
     returns-3)

@@ -15,6 +15,9 @@ list-fine-requires c κs = search needs
 in-list-requires : tie.Need-in-list-requires
 in-list-requires c κs = search needs
 
+cast-if4 : tie.Need-cast-if4
+cast-if4 c = search needs
+
 infos-known-requires : tie.Need-infos-known-requires
 infos-known-requires c κs = search needs
 
@@ -64,6 +67,7 @@ change-fine-spec =
     (tie.spec
     list-fine-requires
     in-list-requires
+    cast-if4
     infos-known-requires
     returns
     returns-2

@@ -1,12 +1,11 @@
 -- `turns::drop_links` meets its contract.
-use native.Mathlib.Omega.{arith}
 use Rattle.turns.proofs.Glue.{drop-none, drop-more}
 use Rattle.turns.specs.Turn.{clip}
 use Rattle.rules.specs.Step.{dropFirst}
 use borrow.Author.Needs.{needs}
 use mathlib.Core.Path.{_≡_}
 use Prim.Native.Nat.{_≤_, _-_, _%_}
-use borrow.Author.Tests.{le-ltb}
+use native.Mathlib.Omega.{arith}
 use Rattle.turns.proofs.drop_links.Statement.{statement}
 use Rattle.turns.proofs.drop_links.Tie as tie
 
@@ -15,9 +14,6 @@ Inv-loop t list n at left₀ j₀ left j = (j ≤ n) × (left ≡ dropFirst left
 
 abbrev μ-loop : tie.MeasureT-loop
 μ-loop t list n at left₀ j₀ left j = n - j
-
-cast-at : tie.Need-cast-at Inv-loop μ-loop
-cast-at c = search needs
 
 mul-at : tie.Need-mul-at Inv-loop μ-loop
 mul-at c = search needs
@@ -64,7 +60,6 @@ drop-links-spec =
     (tie.spec
     Inv-loop
     μ-loop
-    cast-at
     mul-at
     loop-holds
     number-at-requires

@@ -4,9 +4,6 @@ use borrow.Author.Needs.{needs}
 use Rattle.turns.proofs.step_in.Statement.{statement}
 use Rattle.turns.proofs.step_in.Tie as tie
 
-cast-k : tie.Need-cast-k
-cast-k c = search needs
-
 mul-task : tie.Need-mul-task
 mul-task c = search needs
 
@@ -89,7 +86,6 @@ pub step-in-spec : {M : Type 1} → statement M
 step-in-spec =
     tie.close
     (tie.spec
-    cast-k
     mul-task
     element-copy-out-task
     change-of-requires
