@@ -16,3 +16,6 @@ pub mod Short
 pub mod Fresh
 pub mod Bounds
 pub mod Always
+pub mod Lowest
+pub mod Refused
+pub mod Fixed

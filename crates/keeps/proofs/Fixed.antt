@@ -10,14 +10,14 @@ use mathlib.Core.Bool.{Bool}
 use mathlib.Core.List.{List}
 use lib.ListN.{getD, set, length}
 use lib.Seq.{getD-set-same, getD-set-other, set-out}
-use Rattle.rules.specs.Words.{Cell, Change, Machine, Ask, AskLlx, AskScx, AskVlx, AskRead, AskStep, Access, Call, Check, Passed, Failed}
+use Rattle.keeps.proofs.Words.{Cell, Change, Machine, Ask, AskLlx, AskScx, AskVlx, AskRead, AskStep, Access, Call, Check, Passed, Failed}
 use Rattle.table.specs.Table.{noChange, changeAt}
 use Rattle.rules.specs.Access.{changeIn}
 use Rattle.rules.specs.Perform.{changeBy, perform}
 use Rattle.rules.specs.Step.{settle, accessAt, step}
 use Rattle.rules.specs.Start.{filled, start}
 use Rattle.rules.specs.Refuse.{check, rulesOf}
 use Rattle.rules.specs.Next.{refused, started, accepted, answered, next}
 
 -- two changes that wrote down the same
 pub record Same (x y : Change) : Type 0 where

@@ -6,12 +6,12 @@ use mathlib.Core.Path.{_≡_, refl, ap}
 use mathlib.Core.Bool.{Bool, true, false}
 use mathlib.Core.List.{List, [], _∷_, _++_, map}
 use lib.Dec.{ltb}
-use Rattle.rules.specs.Words.{Machine, Call, Refusal, Check, Passed, Failed}
-use Rattle.rules.specs.Words.{Ask, AskLlx, AskScx, AskVlx, AskRead, AskStep}
+use Rattle.keeps.proofs.Words.{Machine, Call, Refusal, Check, Passed, Failed}
+use Rattle.keeps.proofs.Words.{Ask, AskLlx, AskScx, AskVlx, AskRead, AskStep}
 use Rattle.table.specs.Table.{pick}
 use Rattle.rules.specs.Claim.{test}
 use Rattle.rules.specs.Answer.{refusalNumber}
 use Rattle.rules.specs.Refuse.{Rule, check, rules, rulesOf}
 
 -- the rule that is broken, behind rules that are all kept
 pub record Broken (rs : List Rule) (why : Refusal) : Type 0 where
