@@ -4,6 +4,8 @@ use Rattle.table.proofs.same_cell.Kinds as table-same-cell-kinds
 use Rattle.table.proofs.same_cell.Reads as table-same-cell-reads
 use Rattle.table.proofs.same_cells.Kinds as table-same-cells-kinds
 use Rattle.table.proofs.same_cells.Reads as table-same-cells-reads
+use Rattle.table.proofs.Machine.fresh.Kinds as table-fresh-kinds
+use Rattle.table.proofs.Machine.fresh.Reads as table-fresh-reads
 use Rattle.shape.proofs.in_shape.Kinds as shape-in-shape-kinds
 use Rattle.shape.proofs.in_shape.Reads as shape-in-shape-reads
 use Rattle.machine.proofs.call.Kinds as machine-call-kinds
@@ -25,6 +27,10 @@ table-same-cell κs a o p s t e f = e ∙ sym f
 
 pub table-same-cells : Once 0 table-same-cells-kinds.ps table-same-cells-kinds.r table-same-cells-reads.Post
 table-same-cells κs a o p s t e f = e ∙ sym f
+
+-- one lifetime: the values are lent
+pub table-fresh : Once 1 table-fresh-kinds.ps table-fresh-kinds.r table-fresh-reads.Post
+table-fresh κs a o p s t e f = e ∙ sym f
 
 pub shape-in-shape : Once 0 shape-in-shape-kinds.ps shape-in-shape-kinds.r shape-in-shape-reads.Post
 shape-in-shape κs a o p s t e f = e ∙ sym f
