@@ -1,0 +1,170 @@
+-- The invariant, clause by clause (names as in docs/PROOF.md); what a place knows; what an act may rely on; fresh numbers.
+use Prim.Native.Nat.{ℕ, _≤_, _<_}
+use mathlib.Core.Path.{_≡_}
+use mathlib.Core.Bool.{Bool, true, false}
+use mathlib.Core.Logic.{_⊎_, _≢_}
+use mathlib.Core.List.{List}
+use Rattle.clauses.proofs.Words.{Cell, State, InProgress, Committed, Aborted, Link}
+use Rattle.clauses.proofs.Words.{Place, Idle, L1, L2, L3, L4, L5, L6, L7, L8, L9, L10, L11, H1, H2, H3, H4, H5, H6, H7, H8, Vlx, Read}
+use Rattle.table.specs.Table.{cellAt}
+use Rattle.rules.specs.Access.{changeOf}
+use Rattle.clauses.proofs.Memory.{Terms, Shared, Table, spot}
+use Rattle.clauses.proofs.Memory.{Act, nop, hold, abort, freeze, close, write, commit, make}
+use Rattle.clauses.proofs.History.{Ghost}
+
+-- r is one of the records that the change a closes
+abbrev pub InR : Shared → ℕ → ℕ → Type 0
+InR S a r = (i : ℕ) × (i < S .terms a .n) × (S .terms a .closes i ≡ true) × (S .terms a .rec i ≡ r)
+
+-- FINAL, of an info a kept for a comparison at r
+abbrev pub Final : Shared → ℕ → ℕ → Type 0
+Final S r a = (S .state a ≢ InProgress) × (S .state a ≡ Committed → InR S a r → ⊥)
+
+-- SNAP: the first k cells read of r are those that it has, as long as its info is a
+abbrev pub Snap : Shared → ℕ → ℕ → ℕ → List Cell → Type 0
+Snap S r a k cs = S .info r ≡ a → (f : ℕ) → f < k → S .cell r f ≡ cellAt cs f
+
+-- an anchor with the time e of the end of its read: FINAL, and GLINK or GSTORED
+pub record Anchor (S : Shared) (G : Ghost) (r a e : ℕ) : Type 0 where
+  pub FINAL : Final S r a
+  pub CLEAR : S .info r ≡ a → (G .took r < e) × (G .eff r < e)
+  pub TAKEN : S .info r ≢ a → e < G .took r
+  pub PAST : e ≤ G .now
+
+abbrev pub HeldTo : (ℕ → Bool) → ℕ → Type 0
+HeldTo hd i = (j : ℕ) → j < i → hd j ≡ true
+
+-- every record before place i that is closed is marked
+abbrev pub MarkedTo : Shared → Terms → ℕ → Type 0
+MarkedTo S c i = (j : ℕ) → j < i → c .closes j ≡ true → S .mark (c .rec j) ≡ true
+
+-- P4: another took the record of place j before it could be held; all before it were held
+abbrev pub Lost : Terms → (ℕ → Bool) → Shared → Type 0
+Lost c hd S = (j : ℕ) × (j < c .n) × HeldTo hd j × (hd j ≡ false) × (S .info (c .rec j) ≢ c .infos j)
+
+-- the clauses of a live change u: c its contents, s its state, fz allFrozen, hp Hap, hd the places held, e the ends of its linked reads
+pub record Ok (c : Terms) (s : State) (fz hp : Bool) (hd : ℕ → Bool) (e : ℕ → ℕ) (S : Shared) (G : Ghost) (u : ℕ) : Type 0 where
+  pub APART : (i j : ℕ) → i < c .n → j < c .n → c .rec i ≡ c .rec j → i ≡ j
+  pub SHAPE : (c .n ≤ 4) × (c .place < c .n) × (c .field < 4)
+  pub ANCHORS : (i : ℕ) → i < c .n → Anchor S G (c .rec i) (c .infos i) (e i)
+  pub KSTAMP : S .state (c .old .stamp) ≢ InProgress
+  pub SNAP : hp ≡ false → (S .info (spot c) ≡ c .infos (c .place)) ⊎ (S .info (spot c) ≡ u) → S .cell (spot c) (c .field) ≡ c .old
+  -- what was held, P1 and P2
+  pub GONE : (i : ℕ) → i < c .n → hd i ≡ true → S .info (c .rec i) ≢ c .infos i
+  pub HELD : (i : ℕ) → i < c .n → S .info (c .rec i) ≡ u → hd i ≡ true
+  pub HOLDS : (i : ℕ) → i < c .n → hd i ≡ true → s ≡ InProgress → S .info (c .rec i) ≡ u
+  pub FROZEN : fz ≡ true → HeldTo hd (c .n)
+  -- P3, P4
+  pub CLOSED : fz ≡ true → (i : ℕ) → i < c .n → c .closes i ≡ true → S .info (c .rec i) ≡ u
+  pub COMMITTED : s ≡ Committed → hp ≡ true
+  pub ABORTED : s ≡ Aborted → Lost c hd S
+  pub HAPPENED : hp ≡ true → (fz ≡ true) × MarkedTo S c (c .n)
+  pub P3CELL : hp ≡ true → S .cell (spot c) (c .field) .stamp ≢ c .old .stamp
+  pub GSTORED : (i : ℕ) → i < c .n → S .info (c .rec i) ≡ u → hp ≡ false → G .eff (c .rec i) < e i
+
+abbrev pub OkOf : Shared → Ghost → ℕ → Type 0
+OkOf S G u = Ok (S .terms u) (S .state u) (S .frozen u) (G .hap u) (G .held u) (G .since u) S G u
+
+abbrev pub LostOf : Shared → Ghost → ℕ → Type 0
+LostOf S G u = Lost (S .terms u) (G .held u) S
+
+abbrev pub Live : Table → ℕ → Type 0
+Live X u = (u ≢ 0) × (((r : ℕ) × (X .sh .info r ≡ u)) ⊎ ((t : ℕ) × (changeOf (X .task t .place) ≡ u)))
+
+-- what a place knows: only what never goes back
+abbrev pub At : Shared → Ghost → List Cell → Place → Type 0
+At S G cs Idle = Unit {0}
+At S G cs (L1 r) = Unit {0}
+At S G cs (L2 r m1) = Unit {0}
+At S G cs (L3 r m1 a) = Unit {0}
+At S G cs (L4 r m1 a s) = s ≢ InProgress → S .state a ≡ s
+At S G cs (L5 r m1 a k) = (k < 4) × Final S r a × Snap S r a k cs
+At S G cs (L6 r m1 a) = Final S r a × Snap S r a 4 cs
+At S G cs (L7 r m1 a) = Unit {0}
+At S G cs (L8 r m1 a) = Unit {0}
+At S G cs (L9 r) = Unit {0}
+At S G cs (L10 r b) = Unit {0}
+At S G cs (L11 r) = Unit {0}
+At S G cs (H1 u i after) = (u ≢ 0) × (i < S .terms u .n) × HeldTo (G .held u) i
+At S G cs (H2 u i after) = (u ≢ 0) × (i < S .terms u .n) × HeldTo (G .held u) i × (S .info (S .terms u .rec i) ≢ S .terms u .infos i)
+At S G cs (H3 u after) = (u ≢ 0) × ((S .state u ≡ Committed) ⊎ LostOf S G u)
+At S G cs (H4 u after) = (u ≢ 0) × LostOf S G u
+At S G cs (H5 u after) = (u ≢ 0) × HeldTo (G .held u) (S .terms u .n)
+At S G cs (H6 u i after) = (u ≢ 0) × (S .frozen u ≡ true) × (i < S .terms u .n) × (S .terms u .closes i ≡ true) × MarkedTo S (S .terms u) i
+At S G cs (H7 u after) = (u ≢ 0) × (S .frozen u ≡ true) × MarkedTo S (S .terms u) (S .terms u .n)
+At S G cs (H8 u after) = (u ≢ 0) × (G .hap u ≡ true)
+At S G cs (Vlx n i) = i < n
+At S G cs (Read r f) = Unit {0}
+
+-- what a link to r, read at the time e, promises
+abbrev pub LinkOk : Shared → Ghost → ℕ → ℕ → Link → Type 0
+LinkOk S G e r k = k .there ≡ true
+  → Anchor S G r (k .info) e × Snap S r (k .info) 4 (k .cells) × ((f : ℕ) → f < 4 → S .state (cellAt (k .cells) f .stamp) ≢ InProgress)
+
+-- the invariant of a table with its history
+pub record Fine (X : Table) (G : Ghost) : Type 0 where
+  pub ZERO : X .sh .state 0 ≡ Aborted
+  pub PAST : (r : ℕ) → (G .took r ≤ G .now) × (G .eff r ≤ G .now)
+  pub STAMP : (r f : ℕ) → (X .sh .cell r f .stamp ≡ X .sh .info r) ⊎ (X .sh .state (X .sh .cell r f .stamp) ≢ InProgress)
+  pub CHANGES : (u : ℕ) → Live X u → OkOf (X .sh) G u
+  pub PLACES : (t : ℕ) → At (X .sh) G (X .task t .cells) (X .task t .place)
+  pub LINKS : (t r : ℕ) → LinkOk (X .sh) G (G .read t r) r (X .link t r)
+
+-- a fresh number: what an SCX may take
+abbrev pub NotIn : ℕ → Link → Type 0
+NotIn u k = k .there ≡ true → (k .info ≢ u) × ((f : ℕ) → f < 4 → cellAt (k .cells) f .stamp ≢ u)
+
+pub record Fresh (X : Table) (u : ℕ) : Type 0 where
+  pub nonzero : u ≢ 0
+  pub dead : Live X u → ⊥
+  pub no-stamp : (r f : ℕ) → X .sh .cell r f .stamp ≢ u
+  pub no-link : (t r : ℕ) → NotIn u (X .link t r)
+  pub no-stored : (x : ℕ) → Live X x → (i : ℕ) → i < X .sh .terms x .n → X .sh .terms x .infos i ≢ u
+  pub no-old : (x : ℕ) → Live X x → X .sh .terms x .old .stamp ≢ u
+
+-- what stands behind an action: an H1 is of a live change, a start takes a fresh number
+abbrev pub Room : Table → Act → Type 0
+Room X nop = Unit {0}
+Room X (hold u i) = Live X u
+Room X (abort u) = Unit {0}
+Room X (freeze u) = Unit {0}
+Room X (close u i) = Unit {0}
+Room X (write u) = Unit {0}
+Room X (commit u) = Unit {0}
+Room X (make u c) = Fresh X u
+
+-- y is not the number that the action takes
+abbrev pub Off : Act → ℕ → Type 0
+Off nop y = Unit {0}
+Off (hold u i) y = Unit {0}
+Off (abort u) y = Unit {0}
+Off (freeze u) y = Unit {0}
+Off (close u i) y = Unit {0}
+Off (write u) y = Unit {0}
+Off (commit u) y = Unit {0}
+Off (make u c) y = y ≢ u
+
+-- what a start fills in
+pub record Made (S : Shared) (G : Ghost) (t u : ℕ) (c : Terms) : Type 0 where
+  pub nonzero : u ≢ 0
+  pub apart : (i j : ℕ) → i < c .n → j < c .n → c .rec i ≡ c .rec j → i ≡ j
+  pub shape : (c .n ≤ 4) × (c .place < c .n) × (c .field < 4)
+  pub anchors : (i : ℕ) → i < c .n → Anchor S G (c .rec i) (c .infos i) (G .read t (c .rec i))
+  pub kstamp : S .state (c .old .stamp) ≢ InProgress
+  pub snap : S .info (spot c) ≡ c .infos (c .place) → S .cell (spot c) (c .field) ≡ c .old
+  pub no-info : (r : ℕ) → S .info r ≢ u
+  pub no-infos : (i : ℕ) → i < c .n → c .infos i ≢ u
+  pub no-old : c .old .stamp ≢ u
+
+-- what the task's place tells when the action is taken
+abbrev pub Guard : Shared → Ghost → ℕ → Act → Type 0
+Guard S G t nop = Unit {0}
+Guard S G t (hold u i) = record { ok : OkOf S G u; inside : i < S .terms u .n; prior : HeldTo (G .held u) i;
+  at : S .info (S .terms u .rec i) ≡ S .terms u .infos i }
+Guard S G t (abort u) = record { ok : OkOf S G u; lost : LostOf S G u }
+Guard S G t (freeze u) = record { ok : OkOf S G u; all : HeldTo (G .held u) (S .terms u .n) }
+Guard S G t (close u i) = record { ok : OkOf S G u; frozen : S .frozen u ≡ true }
+Guard S G t (write u) = record { ok : OkOf S G u; frozen : S .frozen u ≡ true; marked : MarkedTo S (S .terms u) (S .terms u .n);
+  is-old : S .cell (spot (S .terms u)) (S .terms u .field) ≡ S .terms u .old }
+Guard S G t (commit u) = record { ok : OkOf S G u; hap : G .hap u ≡ true }
+Guard S G t (make u c) = Made S G t u c

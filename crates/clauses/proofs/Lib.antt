@@ -1,0 +1,12 @@
+pub mod Words
+pub mod Updates
+pub mod Memory
+pub mod History
+pub mod Clauses
+pub mod Events
+pub mod Frame
+pub mod Keep
+pub mod Keep2
+pub mod Others
+pub mod Turn
+pub mod Steps
