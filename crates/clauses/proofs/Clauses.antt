@@ -105,7 +105,7 @@ LinkOk S G e r k = k .there ≡ true
 pub record Fine (X : Table) (G : Ghost) : Type 0 where
   pub ZERO : X .sh .state 0 ≡ Aborted
   pub PAST : (r : ℕ) → (G .took r ≤ G .now) × (G .eff r ≤ G .now)
-  pub STAMP : (r f : ℕ) → (X .sh .cell r f .stamp ≡ X .sh .info r) ⊎ (X .sh .state (X .sh .cell r f .stamp) ≢ InProgress)
+  pub STAMP : (r f : ℕ) → f < 4 → (X .sh .cell r f .stamp ≡ X .sh .info r) ⊎ (X .sh .state (X .sh .cell r f .stamp) ≢ InProgress)
   pub CHANGES : (u : ℕ) → Live X u → OkOf (X .sh) G u
   pub PLACES : (t : ℕ) → At (X .sh) G (X .task t .cells) (X .task t .place)
   pub LINKS : (t r : ℕ) → LinkOk (X .sh) G (G .read t r) r (X .link t r)
@@ -117,19 +117,19 @@ NotIn u k = k .there ≡ true → (k .info ≢ u) × ((f : ℕ) → f < 4 → ce
 pub record Fresh (X : Table) (u : ℕ) : Type 0 where
   pub nonzero : u ≢ 0
   pub dead : Live X u → ⊥
-  pub no-stamp : (r f : ℕ) → X .sh .cell r f .stamp ≢ u
+  pub no-stamp : (r f : ℕ) → f < 4 → X .sh .cell r f .stamp ≢ u
   pub no-link : (t r : ℕ) → NotIn u (X .link t r)
   pub no-stored : (x : ℕ) → Live X x → (i : ℕ) → i < X .sh .terms x .n → X .sh .terms x .infos i ≢ u
   pub no-old : (x : ℕ) → Live X x → X .sh .terms x .old .stamp ≢ u
 
--- what stands behind an action: an H1 is of a live change, a start takes a fresh number
+-- what stands behind an act: an H1 or an H7 is of a live change, a start takes a fresh number
 abbrev pub Room : Table → Act → Type 0
 Room X nop = Unit {0}
 Room X (hold u i) = Live X u
 Room X (abort u) = Unit {0}
 Room X (freeze u) = Unit {0}
 Room X (close u i) = Unit {0}
-Room X (write u) = Unit {0}
+Room X (write u) = Live X u
 Room X (commit u) = Unit {0}
 Room X (make u c) = Fresh X u
 

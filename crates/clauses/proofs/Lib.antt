@@ -10,3 +10,16 @@ pub mod Keep2
 pub mod Others
 pub mod Turn
 pub mod Steps
+pub mod Course
+pub mod Came
+pub mod LinkedReads
+pub mod Sentences
+pub mod Closed
+pub mod Origins
+pub mod Advanced
+pub mod FirstFrom
+pub mod SameCell
+pub mod ReadsOn
+pub mod HelpsOn
+pub mod Advance
+pub mod Made

@@ -117,9 +117,13 @@ module _ (X Y : Table) (G : Ghost) (F : Fine X G) (t : ℕ) (b : Act) (k : Readi
   kept s r = stay-link S G t k b (T .guard) (G .read s r) r (X .link s r)
     (off-link X b (T .room) (X .link s r) (λ x N. N .no-link s r)) (F .LINKS s r)
 
-  changes : (u : ℕ) → Live Y u → OkOf S′ G′ u
-  changes u l = ⊎-elim (λ l. keep-ok S G t k b (T .guard) u (F .CHANGES u l) (spared u l))
-    (λ (z : Takes b u). taken b (T .guard) (z .0) (z .1)) (live-back u l)
+  -- the clauses of a change that was live hold after the call, whether it still is or not
+  pub stays-ok : (u : ℕ) → Live X u → OkOf (Y .sh) G′ u
+  stays-ok u l = subst (λ (S : Shared). OkOf S G′ u) (sym (T .shared)) (keep-ok S G t k b (T .guard) u (F .CHANGES u l) (spared u l))
+
+  changes : (u : ℕ) → Live Y u → OkOf (Y .sh) G′ u
+  changes u l = ⊎-elim (stays-ok u)
+    (λ (z : Takes b u). subst (λ (S : Shared). OkOf S G′ u) (sym (T .shared)) (taken b (T .guard) (z .0) (z .1))) (live-back u l)
     where
       taken : (b : Act) → Guard S G t b → (c : Terms) → b ≡ make u c → OkOf (apply b S) (note t b k S G) u
       taken b g c e = rw e (made-ok S G t k u c (subst (λ b. Guard S G t b) e g))
@@ -143,9 +147,9 @@ module _ (X Y : Table) (G : Ghost) (F : Fine X G) (t : ℕ) (b : Act) (k : Readi
     ZERO = subst (λ (S : Shared). S .state 0 ≡ Aborted) (sym (T .shared))
         (stay-state S G t k b (T .guard) 0 (off X b (T .room) 0 (λ x N e. N .nonzero (sym e))) (λ q. AI (F .ZERO) q) ∙ F .ZERO);
     PAST = λ r. (took-past S G t k b r (F .PAST r .0), eff-past S G t k b r (F .PAST r .1));
-    STAMP = λ r f. subst (λ (S : Shared). (S .cell r f .stamp ≡ S .info r) ⊎ (S .state (S .cell r f .stamp) ≢ InProgress)) (sym (T .shared))
-        (stay-stamp S G t k b (T .guard) r f (off X b (T .room) _ (λ x N. N .no-stamp r f)) (F .STAMP r f));
-    CHANGES = λ u l. subst (λ (S : Shared). OkOf S G′ u) (sym (T .shared)) (changes u l);
+    STAMP = λ r f l. subst (λ (S : Shared). (S .cell r f .stamp ≡ S .info r) ⊎ (S .state (S .cell r f .stamp) ≢ InProgress)) (sym (T .shared))
+        (stay-stamp S G t k b (T .guard) r f (off X b (T .room) _ (λ x N. N .no-stamp r f l)) (F .STAMP r f l));
+    CHANGES = changes;
     PLACES = λ s. subst (λ (S : Shared). At S G′ (Y .task s .cells) (Y .task s .place)) (sym (T .shared)) (⊎-elim
         (λ (e : s ≡ t). subst (λ s. At S′ G′ (Y .task s .cells) (Y .task s .place)) (sym e) (T .place))
         (λ n. subst (λ x. At S′ G′ (x .cells) (x .place)) (sym (T .tasks s n)) (stay S G t k b (T .guard) (X .task s .cells) (X .task s .place)

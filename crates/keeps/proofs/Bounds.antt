@@ -26,7 +26,7 @@ module _ (m : Machine) (S : InShape m) where
     pub task<8 : t < 8
     task<8 = omega (arith, p≤8)
 
-    touched : recordOf (accessAt m t) < m .n
+    pub touched : recordOf (accessAt m t) < m .n
     unfolding accessAt
     touched =
         let x = taskAt m t in

@@ -146,6 +146,11 @@ step-busy m e h ask = busy (inShape m) (ltb (e .task) (m .p)) (idleAt m (e .task
         → check (unless OutOfShape (holds (inShape m)) ∷ rules (m .p) (m .n) (m .used) (idleAt m (e .task)) (linkedAt m e) (e .task) AskStep (e .list)) ≡ Passed
     by-ask ask e h = rw e at h
 
+-- what passes its rules is not refused
+pub passed-answers : (m : Machine) (e : Call) → check (rulesOf m e) ≡ Passed → isRefusal (next m e .answer) ≡ false
+unfolding next
+passed-answers m e h = rw h (plain-accepted m (e .task) (e .ask) (e .list) (step-busy m e h))
+
 -- A REFUSAL LEAVES THE STATE AS IT CAME
 pub refusal-alters-nothing : (m : Machine) (e : Call) → isRefusal (next m e .answer) ≡ true → next m e .m ≡ m
 unfolding next refused

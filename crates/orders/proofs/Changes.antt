@@ -1,0 +1,84 @@
+-- A change of the statement is a number that a call of the course takes, with the terms that the start wrote down.
+use Prim.Native.Nat.{ℕ, suc, _+_, _≤_, _<_}
+use mathlib.Core.Path.{_≡_, refl, sym, ap, _∙_, subst}
+use mathlib.Core.Bool.{Bool, true, false}
+use mathlib.Core.Logic.{_≢_}
+use mathlib.Core.List.{List}
+use native.Mathlib.Omega.{arith}
+use lib.ListN.{getD}
+use Rattle.orders.proofs.Words.{Machine, Own, H1, AskScx, AskStep, Call, Out, Place, Accepted}
+use Rattle.table.specs.Table.{linkAt, taskAt}
+use Rattle.rules.specs.Start.{filled}
+use Rattle.rules.specs.Claim.{Says}
+use Rattle.rules.specs.Shape.{allLinked}
+use Rattle.rules.specs.Refuse.{linkedAt}
+use Rattle.rules.specs.Next.{started, next}
+use Rattle.rules.proofs.Exact.{told}
+use Rattle.clauses.proofs.Memory.{Terms, Act, make}
+use Rattle.clauses.proofs.Steps.{termsOf}
+use Rattle.clauses.proofs.Course.{Course, Starts, Unstarted}
+use Rattle.orders.specs.Demand.{before, Change, During}
+use Rattle.orders.proofs.View.{did}
+use Rattle.orders.proofs.Calls.{Passes, accepts, next-is, did-is, obeyed, Scx, took}
+use Rattle.orders.proofs.Run.{Run, course}
+
+module _ (m : Machine) (calls : ℕ → Call) (R : Run m calls) where
+  abbrev M : ℕ → Machine
+  M k = before next m calls k
+
+  abbrev C : Course
+  C = course m calls R
+
+  abbrev Ch : Type 0
+  Ch = Change next m calls
+
+  pub by-task : (c : Ch) → calls (c .start) .task ≡ c .task
+  by-task c = ap (λ (e : Call). e .task) (c .asks)
+
+  pub by-list : (c : Ch) → calls (c .start) .list ≡ c .list
+  by-list c = ap (λ (e : Call). e .list) (c .asks)
+
+  pub passes : (c : Ch) → Passes (M (c .start)) (calls (c .start)) (AskScx (c .n) (c .r) (c .written) (c .field) (c .new))
+  passes c = record { passed = accepts (M (c .start)) (calls (c .start)) (c .accepted); asks = ap (λ (e : Call). e .ask) (c .asks) }
+
+  -- it takes the next number, and writes down what it asks for
+  pub number-is : (c : Ch) → c .number ≡ M (c .start) .used + 1
+  number-is c =
+      let p = R .scx-place (c .start) (c .n) (c .r) (c .written) (c .field) (c .new) (passes c) in
+      let q : H1 (c .number) 0 Own ≡ H1 (M (c .start) .used + 1) 0 Own =
+            sym (c .takes) ∙ subst (λ t. taskAt (M (suc (c .start))) t .place ≡ H1 (M (c .start) .used + 1) 0 Own) (by-task c) p in
+      cc
+
+  -- changes with different numbers have different starts
+  pub another : (c d : Ch) (x : ℕ) → d .number ≡ x → x ≢ c .number → d .start ≢ c .start
+  another c d x q n e = n (sym q ∙ number-is d ∙ ap (λ s. M s .used + 1) e ∙ sym (number-is c))
+
+  abbrev pub terms : Ch → Terms
+  terms c = termsOf (filled (M (c .start)) (c .task) (c .n) (c .list) (c .r) (c .written) (c .field) (c .new))
+
+  pub makes : (c : Ch) → C .act (c .start) ≡ make (c .number) (terms c)
+  makes c = did-is (M (c .start)) (calls (c .start)) _ (passes c) ∙ rw (number-is c, by-task c, by-list c) refl
+
+  pub starts : (c : Ch) (u : ℕ) → c .number ≡ u → Starts C (c .start) u
+  starts c u e = (terms c, makes c ∙ ap (λ u. make u (terms c)) e)
+
+  -- and whatever takes a number is a change
+  pub change-of : (s u : ℕ) → Starts C s u → (c : Ch) × (c .start ≡ s) × (c .number ≡ u)
+  unfolding started
+  change-of s u (t, e) = go (took (M s) (calls s) u t e)
+    where
+      go : Scx (M s) (calls s) u t → (c : Ch) × (c .start ≡ s) × (c .number ≡ u)
+      go (n, r, written, field, new, P, number, same) =
+          (record {
+            start = s; task = calls s .task; n = n; list = calls s .list; r = r; written = written; field = field; new = new; number = u;
+            asks = λ k. record { task = calls s .task; ask = P .asks k; list = calls s .list };
+            accepted = ap (λ (o : Out). o .answer) (next-is (M s) (calls s) _ P);
+            takes = R .scx-place s n r written field new P ∙ ap (λ u. H1 u 0 Own) (sym number);
+          }, refl, refl)
+
+  pub alone : (c : Ch) (k : ℕ) → During next m calls c k → Unstarted C (c .number) (suc (c .start)) k
+  alone c k D i a b z = let (d, s, u) = change-of i (c .number) z in
+    D .alone d (subst (λ i. c .start < i) (sym s) a) (subst (λ i. i < k) (sym s) b) u
+
+  pub during : (c : Ch) (k : ℕ) → c .start < k → Unstarted C (c .number) (suc (c .start)) k → During next m calls c k
+  during c k h W = record { later = h; alone = λ d a b e. W (d .start) a b (starts d (c .number) e) }

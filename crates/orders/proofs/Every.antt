@@ -1,0 +1,44 @@
+-- EVERY ORDER: any calls from any fresh table meet demand 3. And in the base a number is given once, so that a change keeps its number
+-- for good.
+use Prim.Native.Nat.{ℕ, suc, _+_, _≤_, _<_}
+use mathlib.Core.Path.{_≡_, refl, sym, ap, _∙_}
+use mathlib.Core.Bool.{true}
+use mathlib.Core.Logic.{⊎-elim}
+use mathlib.Core.List.{List}
+use native.Mathlib.Omega.{arith}
+use native.Mathlib.Nat.{le-refl}
+use lib.ListN.{length}
+use Rattle.table.specs.Fresh.{inRange, fresh}
+use Rattle.rules.specs.Next.{next}
+use Rattle.keeps.proofs.Fixed.{used-rises}
+use Rattle.clauses.proofs.Updates.{same?, leb-case, le-split}
+use Rattle.orders.specs.Demand.{before, Change, During, Demand3}
+use Rattle.orders.proofs.Words.{Machine, Call, Own, H1}
+use Rattle.orders.proofs.Run.{Run}
+use Rattle.orders.proofs.FromFresh.{run}
+use Rattle.orders.proofs.Changes.{number-is, passes}
+use Rattle.orders.proofs.Effects.{once, alters-its-field, by-an-effect, of-one-change, closed}
+use Rattle.orders.proofs.Untouched.{untouched}
+use Rattle.orders.proofs.Verdicts.{yes-after, no-never, agree, no-because}
+use Rattle.orders.proofs.Working.{finishes, works}
+
+demand3 : (m : Machine) (calls : ℕ → Call) → Run m calls → Demand3 next m calls
+demand3 m calls R =
+    record {
+      once = once m calls R;
+      alters-its-field = alters-its-field m calls R;
+      untouched = untouched m calls R;
+      closed = closed m calls R;
+      by-an-effect = by-an-effect m calls R;
+      of-one-change = of-one-change m calls R;
+      agree = agree m calls R;
+      finishes = finishes m calls R;
+      works = works m calls R;
+      yes-after = yes-after m calls R;
+      no-never = no-never m calls R;
+      no-because = no-because m calls R;
+    }
+
+-- DEMAND 3
+pub every-order : (p n : ℕ) (values : List ℕ) → inRange p n (length values) ≡ true → (calls : ℕ → Call) → Demand3 next (fresh p n values .m) calls
+every-order p n values ok calls = demand3 (fresh p n values .m) calls (run p n values ok calls)

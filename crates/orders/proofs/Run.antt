@@ -1,0 +1,59 @@
+-- A run whose tables are in shape and whose calls are turns is a course of the clauses.
+use Prim.Native.Nat.{ℕ, zero, suc, _+_, _<_}
+use mathlib.Core.Path.{_≡_, refl, ap, _∙_}
+use mathlib.Core.Bool.{true, false}
+use mathlib.Core.Logic.{_≢_}
+use lib.Dec.{ltb}
+use borrow.Author.Tests.{lt-ltb}
+use Rattle.orders.proofs.Words.{Machine, Own, H1, AskScx, AskStep, Call, Record, Task, Link}
+use Rattle.table.specs.Table.{recordAt, taskAt, linkAt}
+use Rattle.rules.specs.Step.{moveAt}
+use Rattle.rules.specs.Next.{next}
+use Rattle.keeps.proofs.Fine.{Fine}
+use Rattle.clauses.proofs.History.{Ghost, none-yet}
+use Rattle.clauses.proofs.Clauses.{Live}
+use Rattle.clauses.proofs.Clauses.{Fine as Clauses}
+use Rattle.clauses.proofs.Turn.{Turn}
+use Rattle.clauses.proofs.Course.{Course}
+use Rattle.orders.specs.Demand.{before}
+use Rattle.orders.proofs.View.{recordIn, taskIn, linkIn, view, did, reading}
+use Rattle.orders.proofs.Calls.{Passes}
+
+pub record Run (m : Machine) (calls : ℕ → Call) : Type 0 where
+  pub shaped : (k : ℕ) → Fine (before next m calls k)
+  pub same-p : (k : ℕ) → before next m calls k .p ≡ m .p
+  pub same-n : (k : ℕ) → before next m calls k .n ≡ m .n
+  pub begins : Clauses (view (before next m calls 0)) none-yet
+  pub no-changes : (u : ℕ) → Live (view (before next m calls 0)) u → ⊥
+  pub no-links : (t r : ℕ) → linkIn (before next m calls 0) t r .there ≡ false
+  pub turns : (k : ℕ) (G : Ghost) → Clauses (view (before next m calls k)) G
+    → Turn (view (before next m calls k)) (view (before next m calls (suc k))) G (calls k .task) (did (before next m calls k) (calls k))
+      (reading (before next m calls k) (calls k))
+  -- where a step and the start of an SCX lead
+  pub step-place : (k : ℕ) → Passes (before next m calls k) (calls k) AskStep
+    → taskAt (before next m calls (suc k)) (calls k .task) .place ≡ moveAt (before next m calls k) (calls k .task) .place
+  pub scx-place : (k n r written field new : ℕ) → Passes (before next m calls k) (calls k) (AskScx n r written field new)
+    → taskAt (before next m calls (suc k)) (calls k .task) .place ≡ H1 (before next m calls k .used + 1) 0 Own
+
+abbrev pub course : (m : Machine) (calls : ℕ → Call) → Run m calls → Course
+course m calls R =
+    record {
+      table = λ k. view (before next m calls k);
+      who = λ k. calls k .task;
+      act = λ k. did (before next m calls k) (calls k);
+      reads = λ k. reading (before next m calls k) (calls k);
+      begins = R .begins;
+      no-changes = R .no-changes;
+      no-links = R .no-links;
+      turns = R .turns;
+    }
+
+-- inside the table the view is the table
+pub record-in : (m : Machine) (r : ℕ) → r < m .n → recordIn m r ≡ recordAt m r
+record-in m r h = rw (lt-ltb r (m .n) h) refl
+
+pub task-in : (m : Machine) (t : ℕ) → t < m .p → taskIn m t ≡ taskAt m t
+task-in m t h = rw (lt-ltb t (m .p) h) refl
+
+pub link-in : (m : Machine) (t r : ℕ) → t < m .p → r < m .n → linkIn m t r ≡ linkAt m t r
+link-in m t r h l = rw (lt-ltb t (m .p) h, lt-ltb r (m .n) l) refl
