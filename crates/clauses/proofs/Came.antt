@@ -7,12 +7,11 @@ use native.Mathlib.Omega.{arith}
 use native.Mathlib.Nat.{le-refl}
 use Rattle.clauses.proofs.Words.{Cell, InProgress}
 use Rattle.clauses.proofs.Updates.{upd-hit, upd-miss, at, same?, tf, le-split, put-all, at-all}
-use Rattle.clauses.proofs.Memory.{Terms, Shared, Table, spot, new-cell, apply}
+use Rattle.clauses.proofs.Memory.{Shared, spot, new-cell, apply}
 use Rattle.clauses.proofs.Memory.{Act, nop, hold, abort, freeze, close, write, commit, make}
 use Rattle.clauses.proofs.History.{Ghost, Reading, note}
-use Rattle.clauses.proofs.Clauses.{Guard, Live}
+use Rattle.clauses.proofs.Clauses.{Live}
 use Rattle.clauses.proofs.Events.{hold-going, write-going}
-use Rattle.clauses.proofs.Turn.{Takes}
 use Rattle.clauses.proofs.Course.{Course, X, S, history, fine, turn, guard, room, now-is}
 
 hap-back : (S : Shared) (G : Ghost) (t : ℕ) (k : Reading) (b : Act) (u : ℕ) → note t b k S G .hap u ≡ true → (G .hap u ≡ true) ⊎ (b ≡ write u)
@@ -33,7 +32,7 @@ abbrev Took : Shared → Ghost → ℕ → Reading → Act → ℕ → Type 0
 Took S G t k b r = (x i : ℕ) × (b ≡ hold x i) × (S .terms x .rec i ≡ r) × (note t b k S G .took r ≡ suc (G .now)) × (apply b S .info r ≡ x)
 
 took-back : (S : Shared) (G : Ghost) (t : ℕ) (k : Reading) (b : Act) (r : ℕ)
-  → ((note t b k S G .took r ≡ G .took r) × (apply b S .info r ≡ S .info r)) ⊎ Took S G t k b r
+    → ((note t b k S G .took r ≡ G .took r) × (apply b S .info r ≡ S .info r)) ⊎ Took S G t k b r
 unfolding note apply
 took-back S G t k nop r = inl (refl, refl)
 took-back S G t k (hold x i) r =
@@ -59,7 +58,7 @@ wrote S (freeze x) r f = inl refl
 wrote S (close x i) r f = inl refl
 wrote S (write x) r f = at (λ (row : ℕ → Cell). (row f ≡ S .cell r f) ⊎ Wrote S (write x) r f) (S .cell) _ _ r
     (λ e. at (λ (c : Cell). (c ≡ S .cell r f) ⊎ Wrote S (write x) r f) (S .cell (spot (S .terms x))) _ _ f (λ q. inr (x, refl, e, q))
-        (λ m. inl (rw e))) (λ m. inl refl)
+    (λ m. inl (rw e))) (λ m. inl refl)
 wrote S (commit x) r f = inl refl
 wrote S (make x c) r f = inl refl
 
@@ -95,18 +94,18 @@ module _ (C : Course) where
 
   pub alters-by : (k r f : ℕ) → (S C (suc k) .cell r f ≡ S C k .cell r f) ⊎ Wrote (S C k) (C .act k) r f
   alters-by k r f = subst (λ (s : Shared). (s .cell r f ≡ S C k .cell r f) ⊎ Wrote (S C k) (C .act k) r f) (sym (turn C k .shared))
-    (wrote (S C k) (C .act k) r f)
+      (wrote (S C k) (C .act k) r f)
 
   pub writes-new : (k u : ℕ) → Writes k u → S C (suc k) .cell (spot (S C k .terms u)) (S C k .terms u .field) ≡ new-cell (S C k .terms u) u
   unfolding apply
   writes-new k u e = let c = S C k .terms u in
-    rw (turn C k .shared, e, upd-hit (S C k .cell) (spot c) _ {j = spot c} refl) (upd-hit (S C k .cell (spot c)) (c .field) (new-cell c u) refl)
+      rw (turn C k .shared, e, upd-hit (S C k .cell) (spot c) _ {j = spot c} refl) (upd-hit (S C k .cell (spot c)) (c .field) (new-cell c u) refl)
 
   -- what a write finds has an older stamp, so a write alters its cell
   pub writes-alter : (k u : ℕ) → Writes k u
-    → S C (suc k) .cell (spot (S C k .terms u)) (S C k .terms u .field) ≢ S C k .cell (spot (S C k .terms u)) (S C k .terms u .field)
+      → S C (suc k) .cell (spot (S C k .terms u)) (S C k .terms u .field) ≢ S C k .cell (spot (S C k .terms u)) (S C k .terms u .field)
   writes-alter k u e q = let g = guard C k (write u) e in
-    g .ok .KSTAMP (subst (λ x. S C k .state x ≡ InProgress) (ap (λ (c : Cell). c .stamp) (sym (writes-new k u e) ∙ q ∙ g .is-old))
+      g .ok .KSTAMP (subst (λ x. S C k .state x ≡ InProgress) (ap (λ (c : Cell). c .stamp) (sym (writes-new k u e) ∙ q ∙ g .is-old))
       (write-going (S C k) (H k) (C .who k) u g))
 
   pub hap-now : (k u : ℕ) → Writes k u → H (suc k) .hap u ≡ true
@@ -117,15 +116,22 @@ module _ (C : Course) where
   unfolding history
   hap-came u j zero h f y = let e : j ≡ 0 = omega arith in tf y (subst (λ x. H x .hap u ≡ false) e f)
   hap-came u j (suc k) h f y = ⊎-elim (λ (e : j ≡ suc k). tf y (subst (λ x. H x .hap u ≡ false) e f))
-    (λ l. ⊎-elim (λ z. let (i, a, c, E) = hap-came u j k l f z in (i, a, omega arith, E)) (λ z. (k, l, omega arith, z))
+      (λ l. ⊎-elim (λ z. let (i, a, c, E) = hap-came u j k l f z in (i, a, omega arith, E)) (λ z. (k, l, omega arith, z))
       (hap-back (S C k) (H k) (C .who k) (C .reads k) (C .act k) u y)) (le-split j k h)
 
   -- an H1 that sets an info alters it: the stored info is of an ended change, the setter is not ended
   hold-sets : (k x i r : ℕ) → C .act k ≡ hold x i → S C k .terms x .rec i ≡ r → S C (suc k) .info r ≡ x → Sets k x r
   hold-sets k x i r e q s = let g = guard C k (hold x i) e in
-    record { i = i; act = e; rec = q; inside = g .inside; to = s; live = room C k (hold x i) e;
-      from = λ z. g .ok .ANCHORS i (g .inside) .FINAL .0 (subst (λ y. S C k .state y ≡ InProgress)
-        (sym z ∙ ap (S C k .info) (sym q) ∙ g .at) (hold-going (S C k) (H k) (C .who k) x i g)) }
+      record {
+        i = i;
+        act = e;
+        rec = q;
+        inside = g .inside;
+        to = s;
+        live = room C k (hold x i) e;
+        from = λ z. g .ok .ANCHORS i (g .inside) .FINAL .0 (subst (λ y. S C k .state y ≡ InProgress)
+            (sym z ∙ ap (S C k .info) (sym q) ∙ g .at) (hold-going (S C k) (H k) (C .who k) x i g));
+      }
 
   -- the last hold of a record was an H1 of the change that its info names
   pub took-came : (k r : ℕ) → (H k .took r ≡ 0) ⊎ ((h : ℕ) × (h < k) × (H k .took r ≡ suc h) × Sets h (S C k .info r) r)
@@ -135,10 +141,11 @@ module _ (C : Course) where
     where
       info-is : S C (suc k) .info r ≡ apply (C .act k) (S C k) .info r
       info-is = ap (λ (s : Shared). s .info r) (turn C k .shared)
+
       go : ((note (C .who k) (C .act k) (C .reads k) (S C k) (H k) .took r ≡ H k .took r) × (apply (C .act k) (S C k) .info r ≡ S C k .info r))
           ⊎ Took (S C k) (H k) (C .who k) (C .reads k) (C .act k) r
-        → (H k .took r ≡ 0) ⊎ ((h : ℕ) × (h < k) × (H k .took r ≡ suc h) × Sets h (S C k .info r) r)
-        → (H (suc k) .took r ≡ 0) ⊎ ((h : ℕ) × (h < suc k) × (H (suc k) .took r ≡ suc h) × Sets h (S C (suc k) .info r) r)
+          → (H k .took r ≡ 0) ⊎ ((h : ℕ) × (h < k) × (H k .took r ≡ suc h) × Sets h (S C k .info r) r)
+          → (H (suc k) .took r ≡ 0) ⊎ ((h : ℕ) × (h < suc k) × (H (suc k) .took r ≡ suc h) × Sets h (S C (suc k) .info r) r)
       go (inl (a, c)) (inl z) = inl (a ∙ z)
       go (inl (a, c)) (inr (h, l, e, B)) = inr (h, omega arith, a ∙ e, subst (λ x. Sets h x r) (sym (info-is ∙ c)) B)
       go (inr (x, i, e, q, a, c)) z =
@@ -149,8 +156,8 @@ module _ (C : Course) where
   unfolding history
   eff-up r j zero h = let e : j ≡ 0 = omega arith in rw e (le-refl _)
   eff-up r j (suc k) h = ⊎-elim (λ (e : j ≡ suc k). rw e (le-refl _))
-    (λ l. let z = eff-grows (S C k) (H k) (C .who k) (C .reads k) (C .act k) r (fine C k .PAST r .1) in omega (arith, z, eff-up r j k l))
-    (le-split j k h)
+      (λ l. let z = eff-grows (S C k) (H k) (C .who k) (C .reads k) (C .act k) r (fine C k .PAST r .1) in omega (arith, z, eff-up r j k l))
+      (le-split j k h)
 
   pub eff-at : (u j k : ℕ) → j < k → Writes j u → (i : ℕ) → i < S C j .terms u .n → j < H k .eff (S C j .terms u .rec i)
   unfolding history note
@@ -159,4 +166,4 @@ module _ (C : Course) where
     where
       hit : put-all (S C j .terms u .n) (S C j .terms u .rec) (suc (H j .now)) (H j .eff) (S C j .terms u .rec i) ≡ suc (H j .now)
       hit = at-all (λ y. y ≡ suc (H j .now)) (S C j .terms u .n) (S C j .terms u .rec) _ (H j .eff) (S C j .terms u .rec i)
-        (λ i l e. refl) (λ n. absurd (n i l refl))
+          (λ i l e. refl) (λ n. absurd (n i l refl))

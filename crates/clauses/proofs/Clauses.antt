@@ -99,7 +99,7 @@ At S G cs (Read r f) = Unit {0}
 -- what a link to r, read at the time e, promises
 abbrev pub LinkOk : Shared → Ghost → ℕ → ℕ → Link → Type 0
 LinkOk S G e r k = k .there ≡ true
-  → Anchor S G r (k .info) e × Snap S r (k .info) 4 (k .cells) × ((f : ℕ) → f < 4 → S .state (cellAt (k .cells) f .stamp) ≢ InProgress)
+    → Anchor S G r (k .info) e × Snap S r (k .info) 4 (k .cells) × ((f : ℕ) → f < 4 → S .state (cellAt (k .cells) f .stamp) ≢ InProgress)
 
 -- the invariant of a table with its history
 pub record Fine (X : Table) (G : Ghost) : Type 0 where
@@ -159,12 +159,20 @@ pub record Made (S : Shared) (G : Ghost) (t u : ℕ) (c : Terms) : Type 0 where
 -- what the task's place tells when the action is taken
 abbrev pub Guard : Shared → Ghost → ℕ → Act → Type 0
 Guard S G t nop = Unit {0}
-Guard S G t (hold u i) = record { ok : OkOf S G u; inside : i < S .terms u .n; prior : HeldTo (G .held u) i;
-  at : S .info (S .terms u .rec i) ≡ S .terms u .infos i }
+Guard S G t (hold u i) = record {
+  ok : OkOf S G u;
+  inside : i < S .terms u .n;
+  prior : HeldTo (G .held u) i;
+  at : S .info (S .terms u .rec i) ≡ S .terms u .infos i;
+}
 Guard S G t (abort u) = record { ok : OkOf S G u; lost : LostOf S G u }
 Guard S G t (freeze u) = record { ok : OkOf S G u; all : HeldTo (G .held u) (S .terms u .n) }
 Guard S G t (close u i) = record { ok : OkOf S G u; frozen : S .frozen u ≡ true }
-Guard S G t (write u) = record { ok : OkOf S G u; frozen : S .frozen u ≡ true; marked : MarkedTo S (S .terms u) (S .terms u .n);
-  is-old : S .cell (spot (S .terms u)) (S .terms u .field) ≡ S .terms u .old }
+Guard S G t (write u) = record {
+  ok : OkOf S G u;
+  frozen : S .frozen u ≡ true;
+  marked : MarkedTo S (S .terms u) (S .terms u .n);
+  is-old : S .cell (spot (S .terms u)) (S .terms u .field) ≡ S .terms u .old;
+}
 Guard S G t (commit u) = record { ok : OkOf S G u; hap : G .hap u ≡ true }
 Guard S G t (make u c) = Made S G t u c

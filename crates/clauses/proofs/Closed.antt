@@ -4,8 +4,8 @@ use mathlib.Core.Path.{_≡_, sym, ap, _∙_, subst}
 use mathlib.Core.Bool.{true}
 use mathlib.Core.Logic.{inl, _≢_, ⊎-elim}
 use native.Mathlib.Omega.{arith}
-use Rattle.clauses.proofs.Updates.{tf, le-split, upd-hit}
-use Rattle.clauses.proofs.Memory.{Terms, Shared, apply, write, make}
+use Rattle.clauses.proofs.Updates.{tf, le-split}
+use Rattle.clauses.proofs.Memory.{Terms, Shared, apply, make}
 use Rattle.clauses.proofs.History.{Ghost, note}
 use Rattle.clauses.proofs.Clauses.{OkOf, Live}
 use Rattle.clauses.proofs.Events.{not-hap, write-holds}
@@ -33,21 +33,33 @@ module _ (C : Course) where
 
   shut-step : (u i r j : ℕ) → Shut u i r j → Shut u i r (suc j)
   unfolding history
-  shut-step u i r j p = record { nonzero = p .nonzero; hap = hap; inside = inside; closes = closes; rec = rec;
-      info = subst (λ r. S C (suc j) .info r ≡ u) rec (O .CLOSED (O .HAPPENED hap .0) i inside closes) }
+  shut-step u i r j p = record {
+    nonzero = p .nonzero;
+    hap = hap;
+    inside = inside;
+    closes = closes;
+    rec = rec;
+    info = subst (λ r. S C (suc j) .info r ≡ u) rec (O .CLOSED (O .HAPPENED hap .0) i inside closes);
+  }
     where
       l : Live (X C j) u
       l = live u i r j p
+
       O : OkOf (S C (suc j)) (H (suc j)) u
       O = stays-ok (X C j) (X C (suc j)) (H j) (fine C j) (C .who j) (C .act j) (C .reads j) (turn C j) u l
+
       same : S C (suc j) .terms u ≡ S C j .terms u
       same = ap (λ (s : Shared). s .terms u) (turn C j .shared) ∙ same-terms (S C j) (H j) (C .who j) (C .reads j) (C .act j) u (off-live C j u l)
+
       hap : H (suc j) .hap u ≡ true
       hap = stay-hap (S C j) (H j) (C .who j) (C .reads j) (C .act j) u (off-live C j u l) (p .hap)
+
       inside : i < S C (suc j) .terms u .n
       inside = rw same (p .inside)
+
       closes : S C (suc j) .terms u .closes i ≡ true
       closes = rw same (p .closes)
+
       rec : S C (suc j) .terms u .rec i ≡ r
       rec = rw same (p .rec)
 
@@ -58,34 +70,45 @@ module _ (C : Course) where
 
   marked : (u i r j : ℕ) → Shut u i r j → S C j .mark r ≡ true
   marked u i r j p = subst (λ x. S C j .mark x ≡ true) (p .rec)
-    (fine C j .CHANGES u (live u i r j p) .HAPPENED (p .hap) .1 i (p .inside) (p .closes))
+      (fine C j .CHANGES u (live u i r j p) .HAPPENED (p .hap) .1 i (p .inside) (p .closes))
 
   abbrev pub Unaltered : ℕ → ℕ → Type 0
   Unaltered j r =
       ((f : ℕ) → S C (suc j) .cell r f ≡ S C j .cell r f) × (S C (suc j) .mark r ≡ S C j .mark r) × (S C (suc j) .info r ≡ S C j .info r)
 
   shut-still : (u i r j : ℕ) → Shut u i r j → Unaltered j r
-  shut-still u i r j p = let q = shut-step u i r j p in
-      (λ f. ⊎-elim (λ e. e) (λ (A : Wrote (S C j) (C .act j) r f). absurd (clash f A)) (alters-by C j r f),
-       marked u i r (suc j) q ∙ sym (marked u i r j p), q .info ∙ sym (p .info))
+  shut-still u i r j p = let q = shut-step u i r j p in (
+    λ f. ⊎-elim (λ e. e) (λ (A : Wrote (S C j) (C .act j) r f). absurd (clash f A)) (alters-by C j r f),
+    marked u i r (suc j) q ∙ sym (marked u i r j p),
+    q .info ∙ sym (p .info),
+  )
     where
       clash : (f : ℕ) → Wrote (S C j) (C .act j) r f → ⊥
       clash f (x, E, e, w) = let g = write-guard C j x E in
-        let y : u ≡ x = sym (p .info) ∙ ap (S C j .info) e ∙ write-holds (S C j) (H j) (C .who j) x g _ (g .ok .SHAPE .1) in
-        tf (subst (λ y. H j .hap y ≡ true) y (p .hap)) (not-hap (S C j) (H j) (C .who j) x g)
+          let y : u ≡ x = sym (p .info) ∙ ap (S C j .info) e ∙ write-holds (S C j) (H j) (C .who j) x g _ (g .ok .SHAPE .1) in
+          tf (subst (λ y. H j .hap y ≡ true) y (p .hap)) (not-hap (S C j) (H j) (C .who j) x g)
 
   -- FROM ITS EFFECT ON
   pub closed : (s u : ℕ) (c : Terms) → C .act s ≡ make u c → (k : ℕ) → s < k → Unstarted C u (suc s) k → Writes C k u
-    → (i : ℕ) → i < c .n → c .closes i ≡ true → (j : ℕ) → k < j → Unaltered j (c .rec i)
+      → (i : ℕ) → i < c .n → c .closes i ≡ true → (j : ℕ) → k < j → Unaltered j (c .rec i)
   unfolding history apply note
   closed s u c made k later alone E i h q j l = shut-still u i (c .rec i) j (shut u i (c .rec i) (suc k) j l now)
     where
       P : S C k .terms u ≡ c
       P = since-start C s u c k made later alone (write-live C k u E) .0
+
       h′ : i < S C k .terms u .n
       h′ = rw P h
+
       holds : S C k .info (c .rec i) ≡ u
       holds = subst (λ (c : Terms). S C k .info (c .rec i) ≡ u) P (write-holds (S C k) (H k) (C .who k) u (write-guard C k u E) i h′)
+
       now : Shut u i (c .rec i) (suc k)
-      now = record { nonzero = write-live C k u E .0; hap = hap-now C k u E; info = rw (turn C k .shared, E) holds;
-        inside = rw (turn C k .shared, E) h′; closes = rw (turn C k .shared, E, P) q; rec = rw (turn C k .shared, E, P) }
+      now = record {
+        nonzero = write-live C k u E .0;
+        hap = hap-now C k u E;
+        info = rw (turn C k .shared, E) holds;
+        inside = rw (turn C k .shared, E) h′;
+        closes = rw (turn C k .shared, E, P) q;
+        rec = rw (turn C k .shared, E, P);
+      }

@@ -1,7 +1,7 @@
 -- E1, E4, E5: who may set an info, end a change, alter a cell; from the clauses before the event.
 use Prim.Native.Nat.{ℕ, _<_}
 use mathlib.Core.Path.{_≡_, refl, ap, subst}
-use mathlib.Core.Bool.{true, false, not}
+use mathlib.Core.Bool.{true, false}
 use mathlib.Core.Logic.{_⊎_, inl, inr, ⊎-elim}
 use native.Mathlib.Omega.{arith}
 use Rattle.clauses.proofs.Updates.{at, same?, bool?, tf, leb-case}
@@ -45,11 +45,13 @@ hold-going S G t u i g = ⊎-elim (λ e. e)
   where
     O : OkOf S G u
     O = g .ok
+
     f : G .held u i ≡ false
     f = not-held S G t u i g
+
     lost : LostOf S G u → S .state u ≡ InProgress
     lost (j, h, p, q, m) = ⊎-elim (λ (e : i ≡ j). absurd (m (subst (λ x. S .info (S .terms u .rec x) ≡ S .terms u .infos x) e (g .at))))
-      (λ n. ⊎-elim (λ l. tf (p i (omega arith)) f) (λ l. tf (g .prior j l) q) (leb-case i j)) (same? i j)
+        (λ n. ⊎-elim (λ l. tf (p i (omega arith)) f) (λ l. tf (g .prior j l) q) (leb-case i j)) (same? i j)
 
 -- E5: whoever alters a cell is InProgress, has not happened, and holds all its records
 pub not-hap : (S : Shared) (G : Ghost) (t u : ℕ) → Guard S G t (write u) → G .hap u ≡ false
@@ -57,7 +59,7 @@ not-hap S G t u g = ⊎-elim (λ e. absurd (g .ok .P3CELL e (ap (λ (c : Cell). 
 
 pub write-going : (S : Shared) (G : Ghost) (t u : ℕ) → Guard S G t (write u) → S .state u ≡ InProgress
 write-going S G t u g = ⊎-elim (λ e. e) (⊎-elim (λ c. tf (g .ok .COMMITTED c) (not-hap S G t u g))
-  (λ a. lost-frozen S G u (g .ok) (g .ok .ABORTED a) (g .frozen))) (st? (S .state u))
+    (λ a. lost-frozen S G u (g .ok) (g .ok .ABORTED a) (g .frozen))) (st? (S .state u))
 
 pub write-holds : (S : Shared) (G : Ghost) (t u : ℕ) → Guard S G t (write u) → (i : ℕ) → i < S .terms u .n → S .info (S .terms u .rec i) ≡ u
 write-holds S G t u g i h = g .ok .HOLDS i h (g .ok .FROZEN (g .frozen) i h) (write-going S G t u g)

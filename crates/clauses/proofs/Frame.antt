@@ -1,7 +1,7 @@
 -- One frame law for each part of the state: what an action of any task leaves as it was, or never takes back.
 use Prim.Native.Nat.{ℕ, suc}
 use mathlib.Core.Path.{_≡_, refl, sym, ap, _∙_, subst}
-use mathlib.Core.Bool.{Bool, true, false, not}
+use mathlib.Core.Bool.{Bool, true, false}
 use mathlib.Core.Logic.{_⊎_, inl, inr, _≢_, ⊎-elim}
 use mathlib.Core.List.{List}
 use native.Mathlib.Omega.{arith}
@@ -76,7 +76,7 @@ module _ (S : Shared) (G : Ghost) (t : ℕ) (k : Reading) where
   unfolding note
   stay-held nop u j o h = h
   stay-held (hold x i) u j o h = at (λ (row : ℕ → Bool). row j ≡ true) (G .held) _ _ u
-    (λ e. at (λ z. z ≡ true) (G .held x) _ _ j (λ q. refl) (λ n. rw (← e) h)) (λ n. h)
+      (λ e. at (λ z. z ≡ true) (G .held x) _ _ j (λ q. refl) (λ n. rw (← e) h)) (λ n. h)
   stay-held (abort x) u j o h = h
   stay-held (freeze x) u j o h = h
   stay-held (close x i) u j o h = h
@@ -90,12 +90,12 @@ module _ (S : Shared) (G : Ghost) (t : ℕ) (k : Reading) where
   stay-state nop g a o h = refl
   stay-state (hold x i) g a o h = refl
   stay-state (abort x) g a o h = at (λ z. z ≡ S .state a) (S .state) _ _ a (λ e. ⊎-elim (λ q. absurd (h q))
-    (⊎-elim (λ c. lost-committed S G x (g .ok) (g .lost) (rw e at c)) (λ q. sym q)) (st? (S .state a))) (λ n. refl)
+      (⊎-elim (λ c. lost-committed S G x (g .ok) (g .lost) (rw e at c)) (λ q. sym q)) (st? (S .state a))) (λ n. refl)
   stay-state (freeze x) g a o h = refl
   stay-state (close x i) g a o h = refl
   stay-state (write x) g a o h = refl
   stay-state (commit x) g a o h = at (λ z. z ≡ S .state a) (S .state) _ _ a (λ e. ⊎-elim (λ q. absurd (h q))
-    (⊎-elim (λ c. sym c) (λ q. lost-hap S G x (g .ok) (g .ok .ABORTED (rw e at q)) (g .hap))) (st? (S .state a))) (λ n. refl)
+      (⊎-elim (λ c. sym c) (λ q. lost-hap S G x (g .ok) (g .ok .ABORTED (rw e at q)) (g .hap))) (st? (S .state a))) (λ n. refl)
   stay-state (make x c) g a o h = upd-miss (S .state) x _ o
 
   pub stay-ended : (b : Act) → Guard S G t b → (a : ℕ) → Off b a → S .state a ≢ InProgress → apply b S .state a ≢ InProgress
@@ -109,7 +109,7 @@ module _ (S : Shared) (G : Ghost) (t : ℕ) (k : Reading) where
   unfolding apply
   no-return nop g r a h e = e
   no-return (hold x i) g r a h e = at (λ z. z ≡ a → S .info r ≡ a) (S .info) _ _ r
-    (λ q e. absurd (h (subst (λ z. S .state z ≡ InProgress) e (hold-going S G t x i g)))) (λ n e. e) e
+      (λ q e. absurd (h (subst (λ z. S .state z ≡ InProgress) e (hold-going S G t x i g)))) (λ n e. e) e
   no-return (abort x) g r a h e = e
   no-return (freeze x) g r a h e = e
   no-return (close x i) g r a h e = e
@@ -127,7 +127,7 @@ module _ (S : Shared) (G : Ghost) (t : ℕ) (k : Reading) where
   stay-cell (close x i) g r a f h e = refl
   stay-cell (write x) g r a f h e = at (λ (row : ℕ → Cell). row f ≡ S .cell r f) (S .cell) _ _ r
       (λ q. absurd (h (subst (λ z. S .state z ≡ InProgress)
-    (sym (write-holds S G t x g (S .terms x .place) (g .ok .SHAPE .1)) ∙ sym (ap (S .info) q) ∙ e) (write-going S G t x g)))) (λ n. refl)
+      (sym (write-holds S G t x g (S .terms x .place) (g .ok .SHAPE .1)) ∙ sym (ap (S .info) q) ∙ e) (write-going S G t x g)))) (λ n. refl)
   stay-cell (commit x) g r a f h e = refl
   stay-cell (make x c) g r a f h e = refl
 
@@ -140,7 +140,7 @@ module _ (S : Shared) (G : Ghost) (t : ℕ) (k : Reading) where
   stay-eff (close x i) g r a h e = refl
   stay-eff (write x) g r a h e = at-all (λ z. z ≡ G .eff r) (S .terms x .n) (S .terms x .rec) _ (G .eff) r
       (λ i l q. absurd (h (subst (λ z. S .state z ≡ InProgress)
-    (sym (write-holds S G t x g i l) ∙ sym (ap (S .info) q) ∙ e) (write-going S G t x g)))) (λ n. refl)
+      (sym (write-holds S G t x g i l) ∙ sym (ap (S .info) q) ∙ e) (write-going S G t x g)))) (λ n. refl)
   stay-eff (commit x) g r a h e = refl
   stay-eff (make x c) g r a h e = refl
 
@@ -150,7 +150,7 @@ module _ (S : Shared) (G : Ghost) (t : ℕ) (k : Reading) where
   unfolding note apply
   took-now nop r = inl (refl, refl)
   took-now (hold x i) r = ⊎-elim (λ (e : r ≡ S .terms x .rec i). inr (upd-hit (G .took) _ _ e))
-    (λ n. inl (upd-miss (G .took) _ _ n, upd-miss (S .info) _ _ n)) (same? r (S .terms x .rec i))
+      (λ n. inl (upd-miss (G .took) _ _ n, upd-miss (S .info) _ _ n)) (same? r (S .terms x .rec i))
   took-now (abort x) r = inl (refl, refl)
   took-now (freeze x) r = inl (refl, refl)
   took-now (close x i) r = inl (refl, refl)
@@ -163,7 +163,7 @@ module _ (S : Shared) (G : Ghost) (t : ℕ) (k : Reading) where
   unfolding note apply
   stay-took nop g r a h e = refl
   stay-took (hold x i) g r a h e = at (λ z. z ≡ a → upd (G .took) (S .terms x .rec i) (suc (G .now)) r ≡ G .took r) (S .info) _ _ r
-    (λ q e. absurd (h (subst (λ z. S .state z ≡ InProgress) e (hold-going S G t x i g)))) (λ n e. upd-miss (G .took) _ _ n) e
+      (λ q e. absurd (h (subst (λ z. S .state z ≡ InProgress) e (hold-going S G t x i g)))) (λ n e. upd-miss (G .took) _ _ n) e
   stay-took (abort x) g r a h e = refl
   stay-took (freeze x) g r a h e = refl
   stay-took (close x i) g r a h e = refl
@@ -187,11 +187,12 @@ module _ (S : Shared) (G : Ghost) (t : ℕ) (k : Reading) where
   stay-anchor b g r a e o A = record {
     FINAL = stay-final b g r a o (A .FINAL);
     CLEAR = λ i. let h : S .state a ≢ InProgress = A .FINAL .0 in let j : S .info r ≡ a = no-return b g r a h i in
-      rw (stay-took b g r a h i, stay-eff b g r a h j) (A .CLEAR j);
+        rw (stay-took b g r a h i, stay-eff b g r a h j) (A .CLEAR j);
     TAKEN = λ n. ⊎-elim (λ (z : (note t b k S G .took r ≡ G .took r) × (apply b S .info r ≡ S .info r)). rw (z .0)
         (A .TAKEN (λ q. n (z .1 ∙ q))))
-      (λ (z : note t b k S G .took r ≡ suc (G .now)). omega (arith, z, A .PAST)) (took-now b r);
-    PAST = omega (arith, A .PAST, now-suc b) }
+        (λ (z : note t b k S G .took r ≡ suc (G .now)). omega (arith, z, A .PAST)) (took-now b r);
+    PAST = omega (arith, A .PAST, now-suc b);
+  }
 
   pub stay-snap : (b : Act) → Guard S G t b → (r a m : ℕ) (cs : List Cell) → S .state a ≢ InProgress → Snap S r a m cs
       → Snap (apply b S) r a m cs

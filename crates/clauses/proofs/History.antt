@@ -32,22 +32,78 @@ read-by t k m R = pick (k .ends) (upd R t (upd (R t) (k .at) m)) R
 
 -- the history after a call of task t that did b and read k, over the shared words before it
 unfoldable pub note : ℕ → Act → Reading → Shared → Ghost → Ghost
-note t nop k S G = record { now = suc (G .now); hap = G .hap; held = G .held; since = G .since; took = G .took; eff = G .eff;
-  read = read-by t k (suc (G .now)) (G .read) }
-note t (hold u i) k S G = record { now = suc (G .now); hap = G .hap; held = upd (G .held) u (upd (G .held u) i true); since = G .since;
-  took = upd (G .took) (S .terms u .rec i) (suc (G .now)); eff = G .eff; read = read-by t k (suc (G .now)) (G .read) }
-note t (abort u) k S G = record { now = suc (G .now); hap = G .hap; held = G .held; since = G .since; took = G .took; eff = G .eff;
-  read = read-by t k (suc (G .now)) (G .read) }
-note t (freeze u) k S G = record { now = suc (G .now); hap = G .hap; held = G .held; since = G .since; took = G .took; eff = G .eff;
-  read = read-by t k (suc (G .now)) (G .read) }
-note t (close u i) k S G = record { now = suc (G .now); hap = G .hap; held = G .held; since = G .since; took = G .took; eff = G .eff;
-  read = read-by t k (suc (G .now)) (G .read) }
-note t (write u) k S G = record { now = suc (G .now); hap = upd (G .hap) u true; held = G .held; since = G .since; took = G .took;
-  eff = put-all (S .terms u .n) (S .terms u .rec) (suc (G .now)) (G .eff); read = read-by t k (suc (G .now)) (G .read) }
-note t (commit u) k S G = record { now = suc (G .now); hap = G .hap; held = G .held; since = G .since; took = G .took; eff = G .eff;
-  read = read-by t k (suc (G .now)) (G .read) }
-note t (make u c) k S G = record { now = suc (G .now); hap = upd (G .hap) u false; held = upd (G .held) u (λ i. false);
-  since = upd (G .since) u (λ i. G .read t (c .rec i)); took = G .took; eff = G .eff; read = read-by t k (suc (G .now)) (G .read) }
+note t nop k S G = record {
+  now = suc (G .now);
+  hap = G .hap;
+  held = G .held;
+  since = G .since;
+  took = G .took;
+  eff = G .eff;
+  read = read-by t k (suc (G .now)) (G .read);
+}
+note t (hold u i) k S G = record {
+  now = suc (G .now);
+  hap = G .hap;
+  held = upd (G .held) u (upd (G .held u) i true);
+  since = G .since;
+  took = upd (G .took) (S .terms u .rec i) (suc (G .now));
+  eff = G .eff;
+  read = read-by t k (suc (G .now)) (G .read);
+}
+note t (abort u) k S G = record {
+  now = suc (G .now);
+  hap = G .hap;
+  held = G .held;
+  since = G .since;
+  took = G .took;
+  eff = G .eff;
+  read = read-by t k (suc (G .now)) (G .read);
+}
+note t (freeze u) k S G = record {
+  now = suc (G .now);
+  hap = G .hap;
+  held = G .held;
+  since = G .since;
+  took = G .took;
+  eff = G .eff;
+  read = read-by t k (suc (G .now)) (G .read);
+}
+note t (close u i) k S G = record {
+  now = suc (G .now);
+  hap = G .hap;
+  held = G .held;
+  since = G .since;
+  took = G .took;
+  eff = G .eff;
+  read = read-by t k (suc (G .now)) (G .read);
+}
+note t (write u) k S G = record {
+  now = suc (G .now);
+  hap = upd (G .hap) u true;
+  held = G .held;
+  since = G .since;
+  took = G .took;
+  eff = put-all (S .terms u .n) (S .terms u .rec) (suc (G .now)) (G .eff);
+  read = read-by t k (suc (G .now)) (G .read);
+}
+note t (commit u) k S G = record {
+  now = suc (G .now);
+  hap = G .hap;
+  held = G .held;
+  since = G .since;
+  took = G .took;
+  eff = G .eff;
+  read = read-by t k (suc (G .now)) (G .read);
+}
+note t (make u c) k S G = record {
+  now = suc (G .now);
+  hap = upd (G .hap) u false;
+  held = upd (G .held) u (λ i. false);
+  since = upd (G .since) u (λ i. G .read t (c .rec i));
+  took = G .took;
+  eff = G .eff;
+  read = read-by t k (suc (G .now)) (G .read);
+}
 
 -- before the first call
 abbrev pub none-yet : Ghost

@@ -5,8 +5,13 @@ pub mod History
 pub mod Clauses
 pub mod Events
 pub mod Frame
-pub mod Keep
-pub mod Keep2
+pub mod Lost
+pub mod Spared
+pub mod KeptByEnding
+pub mod KeptByHolding
+pub mod KeptByWriting
+pub mod KeptByStarting
+pub mod Kept
 pub mod Others
 pub mod Turn
 pub mod Steps

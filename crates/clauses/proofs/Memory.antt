@@ -51,18 +51,59 @@ new-cell c u = record { value = c .new; stamp = u }
 
 unfoldable pub apply : Act → Shared → Shared
 apply nop S = S
-apply (hold u i) S = record { terms = S .terms; state = S .state; frozen = S .frozen;
-  info = upd (S .info) (S .terms u .rec i) u; mark = S .mark; cell = S .cell }
-apply (abort u) S = record { terms = S .terms; state = upd (S .state) u Aborted; frozen = S .frozen;
-  info = S .info; mark = S .mark; cell = S .cell }
-apply (freeze u) S = record { terms = S .terms; state = S .state; frozen = upd (S .frozen) u true;
-  info = S .info; mark = S .mark; cell = S .cell }
-apply (close u i) S = record { terms = S .terms; state = S .state; frozen = S .frozen;
-  info = S .info; mark = upd (S .mark) (S .terms u .rec i) true; cell = S .cell }
-apply (write u) S = record { terms = S .terms; state = S .state; frozen = S .frozen; info = S .info; mark = S .mark;
-  cell = upd (S .cell) (spot (S .terms u)) (upd (S .cell (spot (S .terms u))) (S .terms u .field) (new-cell (S .terms u) u)) }
-apply (commit u) S = record { terms = S .terms; state = upd (S .state) u Committed; frozen = S .frozen;
-  info = S .info; mark = S .mark; cell = S .cell }
-apply (make u c) S = record { terms = upd (S .terms) u c; state = upd (S .state) u InProgress; frozen = upd (S .frozen) u false;
-  info = S .info; mark = S .mark; cell = S .cell }
-
+apply (hold u i) S = record {
+  terms = S .terms;
+  state = S .state;
+  frozen = S .frozen;
+  info = upd (S .info) (S .terms u .rec i) u;
+  mark = S .mark;
+  cell = S .cell;
+}
+apply (abort u) S = record {
+  terms = S .terms;
+  state = upd (S .state) u Aborted;
+  frozen = S .frozen;
+  info = S .info;
+  mark = S .mark;
+  cell = S .cell;
+}
+apply (freeze u) S = record {
+  terms = S .terms;
+  state = S .state;
+  frozen = upd (S .frozen) u true;
+  info = S .info;
+  mark = S .mark;
+  cell = S .cell;
+}
+apply (close u i) S = record {
+  terms = S .terms;
+  state = S .state;
+  frozen = S .frozen;
+  info = S .info;
+  mark = upd (S .mark) (S .terms u .rec i) true;
+  cell = S .cell;
+}
+apply (write u) S = record {
+  terms = S .terms;
+  state = S .state;
+  frozen = S .frozen;
+  info = S .info;
+  mark = S .mark;
+  cell = upd (S .cell) (spot (S .terms u)) (upd (S .cell (spot (S .terms u))) (S .terms u .field) (new-cell (S .terms u) u));
+}
+apply (commit u) S = record {
+  terms = S .terms;
+  state = upd (S .state) u Committed;
+  frozen = S .frozen;
+  info = S .info;
+  mark = S .mark;
+  cell = S .cell;
+}
+apply (make u c) S = record {
+  terms = upd (S .terms) u c;
+  state = upd (S .state) u InProgress;
+  frozen = upd (S .frozen) u false;
+  info = S .info;
+  mark = S .mark;
+  cell = S .cell;
+}

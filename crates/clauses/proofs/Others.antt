@@ -18,7 +18,7 @@ use Rattle.clauses.proofs.Clauses.{HeldTo, MarkedTo, OkOf, Off, Guard, 
 use Rattle.clauses.proofs.Events.{CI, write-holds}
 use Rattle.clauses.proofs.Frame.{same-terms, stay-mark, stay-frozen, stay-hap, stay-held, stay-state, stay-ended, stay-final}
 use Rattle.clauses.proofs.Frame.{stay-anchor, stay-snap, took-now, now-suc}
-use Rattle.clauses.proofs.Keep.{stay-gone, stay-lost}
+use Rattle.clauses.proofs.Lost.{stay-gone, stay-lost}
 
 -- no number that a link keeps is the one that the act takes
 abbrev pub OffLink : Act → Link → Type 0
@@ -27,10 +27,11 @@ OffLink b k = k .there ≡ true → Off b (k .info) × ((f : ℕ) → f < 4 → 
 module _ (S : Shared) (G : Ghost) (t : ℕ) (k : Reading) (b : Act) (g : Guard S G t b) where
   pub stay-link : (e r : ℕ) (l : Link) → OffLink b l → LinkOk S G e r l → LinkOk (apply b S) (note t b k S G) e r l
   stay-link e r l o h there =
-      let (anchor, snap, ended) = h there in
-      (stay-anchor S G t k b g r (l .info) e (o there .0) anchor,
-       stay-snap S G t k b g r (l .info) 4 (l .cells) (anchor .FINAL .0) snap,
-       λ f q. stay-ended S G t k b g _ (o there .1 f q) (ended f q))
+      let (anchor, snap, ended) = h there in (
+        stay-anchor S G t k b g r (l .info) e (o there .0) anchor,
+        stay-snap S G t k b g r (l .info) 4 (l .cells) (anchor .FINAL .0) snap,
+        λ f q. stay-ended S G t k b g _ (o there .1 f q) (ended f q),
+      )
 
   marked : (u i : ℕ) → MarkedTo S (S .terms u) i → MarkedTo (apply b S) (S .terms u) i
   marked u i h j l c = stay-mark S G t k b _ (h j l c)
@@ -55,9 +56,11 @@ module _ (S : Shared) (G : Ghost) (t : ℕ) (k : Reading) (b : Act) (g : Guard S
   stay cs (H1 u i after) o K h = rw (same-terms S G t k b u o) (h .0, h .1, held u i o (h .2))
   stay cs (H2 u i after) o K h =
       rw (same-terms S G t k b u o) (h .0, h .1, held u i o (h .2), stay-gone S G t k b g u (K (h .0)) i (h .1) (h .3))
-  stay cs (H3 u after) o K h =
-      (h .0, ⊎-elim (λ (c : S .state u ≡ Committed). inl (stay-state S G t k b g u o (λ q. CI c q) ∙ c))
-        (λ l. inr (stay-lost S G t k b g u o (K (h .0)) l)) (h .1))
+  stay cs (H3 u after) o K h = (
+    h .0,
+    ⊎-elim (λ (c : S .state u ≡ Committed). inl (stay-state S G t k b g u o (λ q. CI c q) ∙ c))
+        (λ l. inr (stay-lost S G t k b g u o (K (h .0)) l)) (h .1),
+  )
   stay cs (H4 u after) o K h = (h .0, stay-lost S G t k b g u o (K (h .0)) (h .1))
   stay cs (H5 u after) o K h = rw (same-terms S G t k b u o) (h .0, held u _ o (h .1))
   stay cs (H6 u i after) o K h =
@@ -76,17 +79,17 @@ module _ (S : Shared) (G : Ghost) (t : ℕ) (k : Reading) where
   unfolding apply
   stay-stamp nop g r f o h = h
   stay-stamp (hold x i) g r f o h = at (λ y. (S .cell r f .stamp ≡ y) ⊎ (S .state (S .cell r f .stamp) ≢ InProgress)) (S .info) _ _ r
-    (λ e. inr (⊎-elim (λ (q : S .cell r f .stamp ≡ S .info r). subst
-        (λ y. S .state y ≢ InProgress) (sym (q ∙ ap (S .info) e ∙ g .at)) (g .ok .ANCHORS i (g .inside) .FINAL .0))
+      (λ e. inr (⊎-elim (λ (q : S .cell r f .stamp ≡ S .info r). subst
+      (λ y. S .state y ≢ InProgress) (sym (q ∙ ap (S .info) e ∙ g .at)) (g .ok .ANCHORS i (g .inside) .FINAL .0))
       (λ n. n) h)) (λ n. h)
   stay-stamp (abort x) g r f o h = ⊎-elim (λ q. inl q) (λ n. inr (stay-ended S G t k (abort x) g _ tt n)) h
   stay-stamp (freeze x) g r f o h = h
   stay-stamp (close x i) g r f o h = h
   stay-stamp (write x) g r f o h = at (λ (row : ℕ → Cell). (row f .stamp ≡ S .info r) ⊎ (S .state (row f .stamp) ≢ InProgress)) (S .cell)
       _ _ r
-    (λ e. at (λ (d : Cell). (d .stamp ≡ S .info r) ⊎ (S .state (d .stamp) ≢ InProgress)) (S .cell (spot (S .terms x))) _ _ f
+      (λ e. at (λ (d : Cell). (d .stamp ≡ S .info r) ⊎ (S .state (d .stamp) ≢ InProgress)) (S .cell (spot (S .terms x))) _ _ f
       (λ q. inl (sym (ap (S .info) e ∙ write-holds S G t x g _ (g .ok .SHAPE .1))))
-          (λ m. subst (λ y. (S .cell y f .stamp ≡ S .info r) ⊎ (S .state (S .cell y f .stamp) ≢ InProgress)) e h)) (λ m. h)
+      (λ m. subst (λ y. (S .cell y f .stamp ≡ S .info r) ⊎ (S .state (S .cell y f .stamp) ≢ InProgress)) e h)) (λ m. h)
   stay-stamp (commit x) g r f o h = ⊎-elim (λ q. inl q) (λ n. inr (stay-ended S G t k (commit x) g _ tt n)) h
   stay-stamp (make x c) g r f o h = ⊎-elim (λ q. inl q) (λ n. inr (stay-ended S G t k (make x c) g _ o n)) h
 
@@ -94,7 +97,7 @@ module _ (S : Shared) (G : Ghost) (t : ℕ) (k : Reading) where
   pub took-past : (b : Act) (r : ℕ) → G .took r ≤ G .now → note t b k S G .took r ≤ note t b k S G .now
   took-past b r h = ⊎-elim (λ (z : (note t b k S G .took r ≡ G .took r) × (apply b S .info r ≡ S .info r)). omega
       (arith, z .0, now-suc S G t k b))
-    (λ (z : note t b k S G .took r ≡ suc (G .now)). omega (arith, z, now-suc S G t k b)) (took-now S G t k b r)
+      (λ (z : note t b k S G .took r ≡ suc (G .now)). omega (arith, z, now-suc S G t k b)) (took-now S G t k b r)
 
   pub eff-past : (b : Act) (r : ℕ) → G .eff r ≤ G .now → note t b k S G .eff r ≤ note t b k S G .now
   unfolding note

@@ -1,11 +1,10 @@
 -- One call of one task: what it has to show is this and no more, and then every clause holds after it.
-use Prim.Native.Nat.{ℕ, suc, _<_}
+use Prim.Native.Nat.{ℕ, suc}
 use mathlib.Core.Path.{_≡_, refl, sym, ap, _∙_, subst}
 use mathlib.Core.Bool.{Bool, true, false, true≢false}
 use mathlib.Core.Logic.{_⊎_, inl, inr, _≢_, ⊎-elim}
-use native.Mathlib.Omega.{arith}
-use Rattle.clauses.proofs.Words.{Cell, State, InProgress, Aborted, Link, Place}
-use Rattle.table.specs.Table.{pick, cellAt}
+use Rattle.clauses.proofs.Words.{InProgress, Aborted, Link}
+use Rattle.table.specs.Table.{pick}
 use Rattle.rules.specs.Access.{changeOf}
 use Rattle.clauses.proofs.Updates.{upd, upd-hit, upd-miss, at, same?}
 use Rattle.clauses.proofs.Memory.{Terms, Shared, Table, apply}
@@ -14,8 +13,9 @@ use Rattle.clauses.proofs.History.{Ghost, Reading, read-by, note}
 use Rattle.clauses.proofs.Clauses.{OkOf, Off, Guard, At, LinkOk, Live, Fresh, NotIn, Room, Fine}
 use Rattle.clauses.proofs.Events.{AI}
 use Rattle.clauses.proofs.Frame.{stay-state}
-use Rattle.clauses.proofs.Keep.{Spared}
-use Rattle.clauses.proofs.Keep2.{keep-ok, made-ok}
+use Rattle.clauses.proofs.Spared.{Spared}
+use Rattle.clauses.proofs.KeptByStarting.{made-ok}
+use Rattle.clauses.proofs.Kept.{keep-ok}
 use Rattle.clauses.proofs.Others.{OffLink, stay-link, stay, stay-stamp, took-past, eff-past}
 
 -- the act takes the number u
@@ -100,8 +100,11 @@ module _ (X Y : Table) (G : Ghost) (F : Fine X G) (t : ℕ) (b : Act) (k : Readi
   G′ = note t b k (X .sh) G
 
   pub spared : (u : ℕ) → Live X u → Spared S G t k b u
-  spared u l = (off X b (T .room) u (λ x N e. N .dead (subst (λ y. Live X y) e l)),
-    λ i h. off X b (T .room) _ (λ x N. N .no-stored u l i h), off X b (T .room) _ (λ x N. N .no-old u l))
+  spared u l = (
+    off X b (T .room) u (λ x N e. N .dead (subst (λ y. Live X y) e l)),
+    λ i h. off X b (T .room) _ (λ x N. N .no-stored u l i h),
+    off X b (T .room) _ (λ x N. N .no-old u l),
+  )
 
   -- who is live was live, or was taken now
   pub live-back : (u : ℕ) → Live Y u → Live X u ⊎ Takes b u
@@ -110,12 +113,12 @@ module _ (X Y : Table) (G : Ghost) (F : Fine X G) (t : ℕ) (b : Act) (k : Readi
       inl (subst (λ y. Live X y) i (info-live X b (T .room) r (λ q. z (sym i ∙ q))))
   live-back u (z, inr (s, e)) = ⊎-elim
       (λ (q : s ≡ t). let i : changeOf (Y .task t .place) ≡ u = subst (λ s. changeOf (Y .task s .place) ≡ u) q e in
-        subst (λ y. Live X y ⊎ Takes b y) i (T .carried (λ v. z (sym i ∙ v))))
+      subst (λ y. Live X y ⊎ Takes b y) i (T .carried (λ v. z (sym i ∙ v))))
       (λ n. inl (z, inr (s, subst (λ x. changeOf (x .place) ≡ u) (T .tasks s n) e))) (same? s t)
 
   kept : (s r : ℕ) → LinkOk S′ G′ (G .read s r) r (X .link s r)
   kept s r = stay-link S G t k b (T .guard) (G .read s r) r (X .link s r)
-    (off-link X b (T .room) (X .link s r) (λ x N. N .no-link s r)) (F .LINKS s r)
+      (off-link X b (T .room) (X .link s r) (λ x N. N .no-link s r)) (F .LINKS s r)
 
   -- the clauses of a change that was live hold after the call, whether it still is or not
   pub stays-ok : (u : ℕ) → Live X u → OkOf (Y .sh) G′ u
@@ -123,7 +126,7 @@ module _ (X Y : Table) (G : Ghost) (F : Fine X G) (t : ℕ) (b : Act) (k : Readi
 
   changes : (u : ℕ) → Live Y u → OkOf (Y .sh) G′ u
   changes u l = ⊎-elim (stays-ok u)
-    (λ (z : Takes b u). subst (λ (S : Shared). OkOf S G′ u) (sym (T .shared)) (taken b (T .guard) (z .0) (z .1))) (live-back u l)
+      (λ (z : Takes b u). subst (λ (S : Shared). OkOf S G′ u) (sym (T .shared)) (taken b (T .guard) (z .0) (z .1))) (live-back u l)
     where
       taken : (b : Act) → Guard S G t b → (c : Terms) → b ≡ make u c → OkOf (apply b S) (note t b k S G) u
       taken b g c e = rw e (made-ok S G t k u c (subst (λ b. Guard S G t b) e g))
@@ -131,14 +134,14 @@ module _ (X Y : Table) (G : Ghost) (F : Fine X G) (t : ℕ) (b : Act) (k : Readi
   -- a link that stands as it did, with the time of its read
   as-it-was : (s r : ℕ) → (s ≢ t) ⊎ (k .ends ≡ true → r ≢ k .at) → Y .link s r ≡ X .link s r → LinkOk S′ G′ (G′ .read s r) r (Y .link s r)
   as-it-was s r h e = subst (λ l. LinkOk S′ G′ (G′ .read s r) r l) (sym e)
-    (subst (λ z. LinkOk S′ G′ z r (X .link s r))
+      (subst (λ z. LinkOk S′ G′ z r (X .link s r))
       (sym (ap (λ (R : ℕ → ℕ → ℕ). R s r) (read-is t b k S G) ∙ read-other t k (suc (G .now)) (G .read) s r h)) (kept s r))
 
   own : (r : ℕ) → Relinked k (X .link t r) r (Y .link t r) → LinkOk S′ G′ (G′ .read t r) r (Y .link t r)
   own r (inl z) = λ there. absurd (true≢false (sym there ∙ z))
   own r (inr (inl (e, n))) = as-it-was t r (inr n) e
   own r (inr (inr (e, q))) = subst (λ r. LinkOk S′ G′ (G′ .read t r) r (Y .link t r)) (sym q)
-    (subst (λ z. LinkOk S′ G′ z (k .at) (Y .link t (k .at)))
+      (subst (λ z. LinkOk S′ G′ z (k .at) (Y .link t (k .at)))
       (sym (ap (λ (R : ℕ → ℕ → ℕ). R t (k .at)) (read-is t b k S G) ∙ read-now t k (suc (G .now)) (G .read) e)) (T .stored e))
 
   -- EVERY CLAUSE HOLDS AFTER THE CALL
@@ -153,7 +156,8 @@ module _ (X Y : Table) (G : Ghost) (F : Fine X G) (t : ℕ) (b : Act) (k : Readi
     PLACES = λ s. subst (λ (S : Shared). At S G′ (Y .task s .cells) (Y .task s .place)) (sym (T .shared)) (⊎-elim
         (λ (e : s ≡ t). subst (λ s. At S′ G′ (Y .task s .cells) (Y .task s .place)) (sym e) (T .place))
         (λ n. subst (λ x. At S′ G′ (x .cells) (x .place)) (sym (T .tasks s n)) (stay S G t k b (T .guard) (X .task s .cells) (X .task s .place)
-          (off X b (T .room) _ (λ x N e. N .dead (N .nonzero, inr (s, e)))) (λ z. F .CHANGES _ (z, inr (s, refl))) (F .PLACES s))) (same? s t));
+        (off X b (T .room) _ (λ x N e. N .dead (N .nonzero, inr (s, e)))) (λ z. F .CHANGES _ (z, inr (s, refl))) (F .PLACES s))) (same? s t));
     LINKS = λ s r. subst (λ (S : Shared). LinkOk S G′ (G′ .read s r) r (Y .link s r)) (sym (T .shared)) (⊎-elim
         (λ (e : s ≡ t). subst (λ s. LinkOk S′ G′ (G′ .read s r) r (Y .link s r)) (sym e) (own r (T .own-links r)))
-        (λ n. as-it-was s r (inl n) (T .links s n r)) (same? s t)) }
+        (λ n. as-it-was s r (inl n) (T .links s n r)) (same? s t));
+  }

@@ -1,31 +1,30 @@
 -- What a call was, by what it answers or does: an answer other than a refusal has passed the rules, an effect is a step at H7, a hold
 -- a step at H1, a number is taken by an SCX, a linked read ends at L6.
-use Prim.Native.Nat.{ℕ, _+_, _<_}
+use Prim.Native.Nat.{ℕ, _+_}
 use mathlib.Core.Path.{_≡_, refl, sym, ap, _∙_, subst}
 use mathlib.Core.Bool.{Bool, true, false, true≢false, false≢true}
 use mathlib.Core.Logic.{_≢_}
-use mathlib.Core.List.{List}
 use native.Mathlib.Omega.{arith}
 use lib.Dec.{eqb, ltb}
 use Rattle.orders.proofs.Words.{State, InProgress, Committed, Aborted, After, Own, AtL8, AtL11, Change, Machine, Seen, Out, Move}
 use Rattle.orders.proofs.Words.{Place, Idle, L1, L2, L3, L4, L5, L6, L7, L8, L9, L10, L11, H1, H2, H3, H4, H5, H6, H7, H8, Vlx, Read}
 use Rattle.orders.proofs.Words.{ReadInfo}
 use Rattle.orders.proofs.Words.{Ask, AskLlx, AskScx, AskVlx, AskRead, AskStep, Call, Check, Passed, Failed}
-use Rattle.orders.proofs.Words.{Refusal, Answer, Accepted, Snapshot, Finalized, Fail, Yes, No, Value, Refused}
+use Rattle.orders.proofs.Words.{Refusal, Accepted, Snapshot, Fail, Yes, Refused}
 use Rattle.table.specs.Table.{pick, taskAt, changeAt, linkAt}
 use Rattle.rules.specs.Access.{changeOf, recordOf, accessOf}
 use Rattle.rules.specs.Perform.{seen}
 use Rattle.rules.specs.Resume.{on, done, snapshot, noAndDrop, verdict, afterL6, afterL7, afterL10, resume}
 use Rattle.rules.specs.Step.{accessAt, moveAt, step}
-use Rattle.rules.specs.Start.{filled, start}
+use Rattle.rules.specs.Start.{filled}
 use Rattle.rules.specs.Refuse.{check, rules, idleAt, linkedAt, rulesOf}
-use Rattle.rules.specs.Next.{refused, started, accepted, answered, next}
+use Rattle.rules.specs.Next.{refused, accepted, answered, next}
 use Rattle.keeps.proofs.Obeyed.{Obeyed, passed}
 use Rattle.clauses.proofs.Memory.{Terms, Act, nop, hold, write, make}
 use Rattle.clauses.proofs.History.{Reading}
 use Rattle.clauses.proofs.Steps.{termsOf, actAt}
 use Rattle.clauses.proofs.Origins.{at-h7, at-h1, no-start}
-use Rattle.orders.proofs.View.{shared, doing, no-reading, ending, doneBy, readBy, did, reading}
+use Rattle.orders.proofs.View.{shared, doing, ending, doneBy, readBy, did, reading}
 
 -- call e passes the rules and asks for ask
 pub record Passes (m : Machine) (e : Call) (ask : Ask) : Type 0 where
@@ -56,17 +55,17 @@ pub reading-is : (m : Machine) (e : Call) (ask : Ask) → Passes m e ask → rea
 reading-is m e ask P = rw (P .passed, P .asks) refl
 
 pub obeyed : (m : Machine) (e : Call) (ask : Ask) → Passes m e ask
-  → Obeyed (rules (m .p) (m .n) (m .used) (idleAt m (e .task)) (linkedAt m e) (e .task) ask (e .list))
+    → Obeyed (rules (m .p) (m .n) (m .used) (idleAt m (e .task)) (linkedAt m e) (e .task) ask (e .list))
 unfolding rulesOf
 obeyed m e ask P = subst (λ a. Obeyed (rules (m .p) (m .n) (m .used) (idleAt m (e .task)) (linkedAt m e) (e .task) a (e .list))) (P .asks)
-  (passed (rulesOf m e) (P .passed) .1)
+    (passed (rulesOf m e) (P .passed) .1)
 
 -- the acts tell the calls apart: a step's by its place, a start's by the number, all others do nothing
 module _ (m : Machine) (e : Call) where
   by-act : (b : Act) (A : Type 0) → (Passes m e AskStep → actAt (shared m) (taskAt m (e .task) .place) ≡ b → A)
-    → ((n r written field new : ℕ) → Passes m e (AskScx n r written field new)
+      → ((n r written field new : ℕ) → Passes m e (AskScx n r written field new)
       → make (m .used + 1) (termsOf (filled m (e .task) n (e .list) r written field new)) ≡ b → A)
-    → (nop ≡ b → A) → did m e ≡ b → A
+      → (nop ≡ b → A) → did m e ≡ b → A
   by-act b A step scx none = go (check (rulesOf m e)) refl
     where
       asked : (ask : Ask) → Passes m e ask → doing m (e .task) ask (e .list) ≡ b → A
@@ -75,31 +74,32 @@ module _ (m : Machine) (e : Call) where
       asked (AskVlx n) P q = none q
       asked (AskRead r f) P q = none q
       asked AskStep P q = step P q
+
       go : (c : Check) → check (rulesOf m e) ≡ c → doneBy c m e ≡ b → A
       go Passed q h = asked (e .ask) (record { passed = q; asks = refl }) h
       go (Failed why) q h = none h
 
   pub wrote : (u : ℕ) → did m e ≡ write u → Passes m e AskStep × ((after : After) × (taskAt m (e .task) .place ≡ H7 u after))
   wrote u = by-act (write u) _ (λ P q. (P, at-h7 (shared m) (taskAt m (e .task) .place) u q))
-    (λ n r written field new P q. let z : _≡_ {A = ℕ} 0 1 = cc in absurd (omega arith))
-    (λ q. let z : _≡_ {A = ℕ} 0 1 = cc in absurd (omega arith))
+      (λ n r written field new P q. let z : _≡_ {A = ℕ} 0 1 = cc in absurd (omega arith))
+      (λ q. let z : _≡_ {A = ℕ} 0 1 = cc in absurd (omega arith))
 
   pub held : (u i : ℕ) → did m e ≡ hold u i → Passes m e AskStep × ((after : After) × (taskAt m (e .task) .place ≡ H1 u i after))
   held u i = by-act (hold u i) _ (λ P q. (P, at-h1 (shared m) (taskAt m (e .task) .place) u i q))
-    (λ n r written field new P q. let z : _≡_ {A = ℕ} 0 1 = cc in absurd (omega arith))
-    (λ q. let z : _≡_ {A = ℕ} 0 1 = cc in absurd (omega arith))
+      (λ n r written field new P q. let z : _≡_ {A = ℕ} 0 1 = cc in absurd (omega arith))
+      (λ q. let z : _≡_ {A = ℕ} 0 1 = cc in absurd (omega arith))
 
   abbrev pub Scx : ℕ → Terms → Type 0
   Scx u c = (n r written field new : ℕ) × Passes m e (AskScx n r written field new) × (u ≡ m .used + 1)
-    × (c ≡ termsOf (filled m (e .task) n (e .list) r written field new))
+      × (c ≡ termsOf (filled m (e .task) n (e .list) r written field new))
 
   pub took : (u : ℕ) (c : Terms) → did m e ≡ make u c → Scx u c
   took u c = by-act (make u c) _ (λ P q. no-start (shared m) (taskAt m (e .task) .place) u c q)
-    (λ n r written field new P q.
+      (λ n r written field new P q.
       let a : m .used + 1 ≡ u = cc in
       let b : termsOf (filled m (e .task) n (e .list) r written field new) ≡ c = cc in
       (n, r, written, field, new, P, sym a, sym b))
-    (λ q. let z : _≡_ {A = ℕ} 0 1 = cc in absurd (omega arith))
+      (λ q. let z : _≡_ {A = ℕ} 0 1 = cc in absurd (omega arith))
 
 -- a link is stored at L6 alone, with the snapshot
 abbrev Stores : Place → Move → Type 0
@@ -157,13 +157,13 @@ stores (H6 u i after) s ch linked = never refl
 stores (H7 u after) s ch linked = never refl
 stores (H8 u after) s ch linked = never (store-verdict true after)
 stores (Vlx n i) s ch linked = never (either (eqb (s .number) linked) (pick (ltb (i + 1) n) (on (Vlx n (i + 1))) (done Yes)) (noAndDrop n)
-  (either (ltb (i + 1) n) (on (Vlx n (i + 1))) (done Yes) refl refl) refl)
+    (either (ltb (i + 1) n) (on (Vlx n (i + 1))) (done Yes) refl refl) refl)
 stores (Read r f) s ch linked = never refl
 
 module _ (m : Machine) (e : Call) where
   abbrev pub Snapped : Type 0
   Snapped = Passes m e AskStep × ((r : ℕ) × (m1 : Bool) × (a : ℕ) × (taskAt m (e .task) .place ≡ L6 r m1 a) × (reading m e .at ≡ r))
-    × (next m e .answer ≡ Snapshot)
+      × (next m e .answer ≡ Snapshot)
 
   pub snapped : reading m e .ends ≡ true → Snapped
   unfolding accessAt moveAt step
@@ -172,34 +172,39 @@ module _ (m : Machine) (e : Call) where
       stepped : Passes m e AskStep → moveAt m (e .task) .store ≡ true → Snapped
       stepped P h =
           let q = taskAt m (e .task) .place in
-          let (r, m1, a, l6, v) = stores q (seen (accessAt m (e .task)) m) (changeAt m (changeOf q)) (linkAt m (e .task) (recordOf (accessAt m (e .task))) .info) h in
-          (P, (r, m1, a, l6, ap (λ (k : Reading). k .at) (reading-is m e AskStep P) ∙ ap (λ q. recordOf (accessOf q (changeAt m (changeOf q)) (taskAt m (e .task) .list))) l6),
-            ap (λ (o : Out). o .answer) (next-is m e AskStep P) ∙ ap (λ (v : Move). v .answer) v)
+          let (r, m1, a, l6, v) = stores q (seen (accessAt m (e .task)) m) (changeAt m (changeOf q)) (linkAt m (e .task) (recordOf (accessAt m (e .task))) .info) h in (
+            P,
+            (r, m1, a, l6, ap (λ (k : Reading). k .at) (reading-is m e AskStep P) ∙ ap (λ q. recordOf (accessOf q (changeAt m (changeOf q)) (taskAt m (e .task) .list))) l6),
+            ap (λ (o : Out). o .answer) (next-is m e AskStep P) ∙ ap (λ (v : Move). v .answer) v,
+          )
+
       asked : (ask : Ask) → Passes m e ask → ending m (e .task) ask .ends ≡ true → Snapped
       asked (AskLlx r) P h = absurd (false≢true h)
       asked (AskScx n r written field new) P h = absurd (false≢true h)
       asked (AskVlx n) P h = absurd (false≢true h)
       asked (AskRead r f) P h = absurd (false≢true h)
       asked AskStep P h = stepped P h
+
       go : (c : Check) → check (rulesOf m e) ≡ c → readBy c m e .ends ≡ true → Snapped
       go Passed c h = asked (e .ask) (record { passed = c; asks = refl }) h
       go (Failed why) c h = absurd (false≢true h)
 
 -- and the other way round
 move-l6 : (m : Machine) (t r : ℕ) (m1 : Bool) (a : ℕ) → taskAt m t .place ≡ L6 r m1 a
-  → (moveAt m t ≡ afterL6 r m1 a (seen (ReadInfo r) m .number)) × (recordOf (accessAt m t) ≡ r)
+    → (moveAt m t ≡ afterL6 r m1 a (seen (ReadInfo r) m .number)) × (recordOf (accessAt m t) ≡ r)
 unfolding accessAt moveAt
 move-l6 m t r m1 a at = rw at (refl, refl)
 
 pub snap-ends : (m : Machine) (e : Call) → Passes m e AskStep → (r : ℕ) (m1 : Bool) (a : ℕ) → taskAt m (e .task) .place ≡ L6 r m1 a
-  → next m e .answer ≡ Snapshot → (reading m e .ends ≡ true) × (reading m e .at ≡ r)
+    → next m e .answer ≡ Snapshot → (reading m e .ends ≡ true) × (reading m e .at ≡ r)
 unfolding step
 snap-ends m e P r m1 a at said =
     let (v, touched) = move-l6 m (e .task) r m1 a at in
-    let k = reading-is m e AskStep P in
-    (ap (λ (k : Reading). k .ends) k ∙ ap (λ (v : Move). v .store) v
-      ∙ go (eqb (seen (ReadInfo r) m .number) a) (ap (λ (v : Move). v .answer) (sym v) ∙ sym (ap (λ (o : Out). o .answer) (next-is m e AskStep P)) ∙ said),
-     ap (λ (k : Reading). k .at) k ∙ touched)
+    let k = reading-is m e AskStep P in (
+      ap (λ (k : Reading). k .ends) k ∙ ap (λ (v : Move). v .store) v
+          ∙ go (eqb (seen (ReadInfo r) m .number) a) (ap (λ (v : Move). v .answer) (sym v) ∙ sym (ap (λ (o : Out). o .answer) (next-is m e AskStep P)) ∙ said),
+      ap (λ (k : Reading). k .at) k ∙ touched,
+    )
   where
     go : (b : Bool) → pick b snapshot (on (L7 r m1 a)) .answer ≡ Snapshot → pick b snapshot (on (L7 r m1 a)) .store ≡ true
     go true h = refl

@@ -1,25 +1,16 @@
 -- A change of the statement is a number that a call of the course takes, with the terms that the start wrote down.
-use Prim.Native.Nat.{ℕ, suc, _+_, _≤_, _<_}
+use Prim.Native.Nat.{ℕ, suc, _+_, _<_}
 use mathlib.Core.Path.{_≡_, refl, sym, ap, _∙_, subst}
-use mathlib.Core.Bool.{Bool, true, false}
 use mathlib.Core.Logic.{_≢_}
-use mathlib.Core.List.{List}
-use native.Mathlib.Omega.{arith}
-use lib.ListN.{getD}
-use Rattle.orders.proofs.Words.{Machine, Own, H1, AskScx, AskStep, Call, Out, Place, Accepted}
-use Rattle.table.specs.Table.{linkAt, taskAt}
+use Rattle.orders.proofs.Words.{Machine, Own, H1, AskScx, Call, Out}
+use Rattle.table.specs.Table.{taskAt}
 use Rattle.rules.specs.Start.{filled}
-use Rattle.rules.specs.Claim.{Says}
-use Rattle.rules.specs.Shape.{allLinked}
-use Rattle.rules.specs.Refuse.{linkedAt}
 use Rattle.rules.specs.Next.{started, next}
-use Rattle.rules.proofs.Exact.{told}
-use Rattle.clauses.proofs.Memory.{Terms, Act, make}
+use Rattle.clauses.proofs.Memory.{Terms, make}
 use Rattle.clauses.proofs.Steps.{termsOf}
 use Rattle.clauses.proofs.Course.{Course, Starts, Unstarted}
 use Rattle.orders.specs.Demand.{before, Change, During}
-use Rattle.orders.proofs.View.{did}
-use Rattle.orders.proofs.Calls.{Passes, accepts, next-is, did-is, obeyed, Scx, took}
+use Rattle.orders.proofs.Calls.{Passes, accepts, next-is, did-is, Scx, took}
 use Rattle.orders.proofs.Run.{Run, course}
 
 module _ (m : Machine) (calls : ℕ → Call) (R : Run m calls) where
@@ -46,7 +37,7 @@ module _ (m : Machine) (calls : ℕ → Call) (R : Run m calls) where
   number-is c =
       let p = R .scx-place (c .start) (c .n) (c .r) (c .written) (c .field) (c .new) (passes c) in
       let q : H1 (c .number) 0 Own ≡ H1 (M (c .start) .used + 1) 0 Own =
-            sym (c .takes) ∙ subst (λ t. taskAt (M (suc (c .start))) t .place ≡ H1 (M (c .start) .used + 1) 0 Own) (by-task c) p in
+      sym (c .takes) ∙ subst (λ t. taskAt (M (suc (c .start))) t .place ≡ H1 (M (c .start) .used + 1) 0 Own) (by-task c) p in
       cc
 
   -- changes with different numbers have different starts
@@ -68,17 +59,28 @@ module _ (m : Machine) (calls : ℕ → Call) (R : Run m calls) where
   change-of s u (t, e) = go (took (M s) (calls s) u t e)
     where
       go : Scx (M s) (calls s) u t → (c : Ch) × (c .start ≡ s) × (c .number ≡ u)
-      go (n, r, written, field, new, P, number, same) =
-          (record {
-            start = s; task = calls s .task; n = n; list = calls s .list; r = r; written = written; field = field; new = new; number = u;
-            asks = λ k. record { task = calls s .task; ask = P .asks k; list = calls s .list };
-            accepted = ap (λ (o : Out). o .answer) (next-is (M s) (calls s) _ P);
-            takes = R .scx-place s n r written field new P ∙ ap (λ u. H1 u 0 Own) (sym number);
-          }, refl, refl)
+      go (n, r, written, field, new, P, number, same) = (
+        record {
+          start = s;
+          task = calls s .task;
+          n = n;
+          list = calls s .list;
+          r = r;
+          written = written;
+          field = field;
+          new = new;
+          number = u;
+          asks = λ k. record { task = calls s .task; ask = P .asks k; list = calls s .list };
+          accepted = ap (λ (o : Out). o .answer) (next-is (M s) (calls s) _ P);
+          takes = R .scx-place s n r written field new P ∙ ap (λ u. H1 u 0 Own) (sym number);
+        },
+        refl,
+        refl,
+      )
 
   pub alone : (c : Ch) (k : ℕ) → During next m calls c k → Unstarted C (c .number) (suc (c .start)) k
   alone c k D i a b z = let (d, s, u) = change-of i (c .number) z in
-    D .alone d (subst (λ i. c .start < i) (sym s) a) (subst (λ i. i < k) (sym s) b) u
+      D .alone d (subst (λ i. c .start < i) (sym s) a) (subst (λ i. i < k) (sym s) b) u
 
   pub during : (c : Ch) (k : ℕ) → c .start < k → Unstarted C (c .number) (suc (c .start)) k → During next m calls c k
   during c k h W = record { later = h; alone = λ d a b e. W (d .start) a b (starts d (c .number) e) }

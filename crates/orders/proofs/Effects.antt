@@ -1,26 +1,25 @@
 -- Effects of the statement are the writes of the course; with that, its sentences on effects and on closed records.
-use Prim.Native.Nat.{ℕ, zero, suc, _≤_, _<_}
+use Prim.Native.Nat.{ℕ, suc, _≤_, _<_}
 use mathlib.Core.Path.{_≡_, refl, sym, ap, _∙_, subst}
 use mathlib.Core.Bool.{Bool, true, false, true≢false}
-use mathlib.Core.Logic.{_⊎_, inl, inr, _≢_, ⊎-elim}
+use mathlib.Core.Logic.{_⊎_, inl, inr, ⊎-elim}
 use mathlib.Core.List.{List}
 use native.Mathlib.Omega.{arith}
 use lib.ListN.{getD}
-use Rattle.orders.proofs.Words.{Cell, Record, After, Machine, Place, H7, Refusal, Refused, AskStep, Call, Answer}
+use Rattle.orders.proofs.Words.{Record, Machine, AskStep, Call}
 use Rattle.table.specs.Table.{pick, cellAt, recordAt, taskAt, linkAt}
-use Rattle.rules.specs.Start.{places}
 use Rattle.rules.specs.Next.{next}
 use Rattle.keeps.proofs.Refused.{isRefusal, passed-answers}
 use Rattle.clauses.proofs.Updates.{same?, leb-case}
-use Rattle.clauses.proofs.Memory.{Terms, Shared, apply, Act, nop, write, make}
+use Rattle.clauses.proofs.Memory.{Terms, Shared, apply, nop, write, make}
 use Rattle.clauses.proofs.Memory.{spot as spotOf}
 use Rattle.clauses.proofs.Steps.{is-old, actAt}
-use Rattle.clauses.proofs.Course.{Course, S, history, turn, born, since-start}
+use Rattle.clauses.proofs.Course.{Course, S, turn, born, since-start}
 use Rattle.clauses.proofs.Came.{Wrote, Writes, alters-by, writes-alter}
 use Rattle.clauses.proofs.Sentences.{write-live, once as one-write, alters as write-alters}
 use Rattle.clauses.proofs.Closed.{closed as stays-closed}
-use Rattle.orders.specs.Demand.{before, said, place, cell, mark, info, Steps, Change, named, spot, Closes, During, Effect, Still}
-use Rattle.orders.proofs.View.{shared, recordIn, did}
+use Rattle.orders.specs.Demand.{before, place, cell, mark, info, Steps, Change, named, spot, Closes, During, Effect, Still}
+use Rattle.orders.proofs.View.{shared, recordIn}
 use Rattle.orders.proofs.Calls.{Passes, not-refused, did-is, obeyed, wrote}
 use Rattle.orders.proofs.Run.{Run, course, record-in}
 use Rattle.orders.proofs.Changes.{by-list, passes, terms, makes, change-of, alone, during}
@@ -44,7 +43,7 @@ module _ (m : Machine) (calls : ℕ → Call) (R : Run m calls) where
 
   pub inside : (c : Ch) (i : ℕ) → i < c .n → named next m calls c i < m .n
   inside c i h = subst (λ n. named next m calls c i < n) (R .same-n (c .start))
-    (subst (λ (l : List ℕ). getD l i 0 < M (c .start) .n) (by-list m calls R c) (obeyed (M (c .start)) (calls (c .start)) _ (passes m calls R c) .1 .1 .1 .0 i h))
+      (subst (λ (l : List ℕ). getD l i 0 < M (c .start) .n) (by-list m calls R c) (obeyed (M (c .start)) (calls (c .start)) _ (passes m calls R c) .1 .1 .1 .0 i h))
 
   pub written-inside : (c : Ch) → c .written < c .n
   written-inside c = obeyed (M (c .start)) (calls (c .start)) _ (passes m calls R c) .1 .1 .1 .1 .1 .0 .0
@@ -57,8 +56,11 @@ module _ (m : Machine) (calls : ℕ → Call) (R : Run m calls) where
   step-passes k t P = record { passed = not-refused (M k) (calls k) (P .accepted); asks = P .step }
 
   pub passed-steps : (k : ℕ) → Passes (M k) (calls k) AskStep → Steps next m calls k (calls k .task)
-  passed-steps k P = record { step = P .asks; by = refl;
-    accepted = λ why e. true≢false (sym (ap isRefusal e) ∙ passed-answers (M k) (calls k) (P .passed)) }
+  passed-steps k P = record {
+    step = P .asks;
+    by = refl;
+    accepted = λ why e. true≢false (sym (ap isRefusal e) ∙ passed-answers (M k) (calls k) (P .passed));
+  }
 
   pub act-is : (k t : ℕ) → Steps next m calls k t → C .act k ≡ actAt (shared (M k)) (place next m calls k t)
   act-is k t P = did-is (M k) (calls k) AskStep (step-passes k t P) ∙ ap (λ t. actAt (shared (M k)) (taskAt (M k) t .place)) (P .by)
@@ -71,8 +73,8 @@ module _ (m : Machine) (calls : ℕ → Call) (R : Run m calls) where
       go : (b : Bool) → C .act k ≡ pick b (write (c .number)) nop → Writes C k (c .number)
       go true e = e
       go false e = absurd (E .alters (sym (cell-is (suc k) (spot next m calls c) (c .field) (spot-inside c))
-        ∙ ap (λ (s : Shared). s .cell (spot next m calls c) (c .field)) (turn C k .shared ∙ ap (λ b. apply b (S C k)) e)
-        ∙ cell-is k (spot next m calls c) (c .field) (spot-inside c)))
+          ∙ ap (λ (s : Shared). s .cell (spot next m calls c) (c .field)) (turn C k .shared ∙ ap (λ b. apply b (S C k)) e)
+          ∙ cell-is k (spot next m calls c) (c .field) (spot-inside c)))
 
   -- the terms of a change that writes are those of its start
   pub terms-at : (c : Ch) (k : ℕ) → During next m calls c k → Writes C k (c .number) → S C k .terms (c .number) ≡ terms m calls R c
@@ -83,24 +85,30 @@ module _ (m : Machine) (calls : ℕ → Call) (R : Run m calls) where
   pub effect : (c : Ch) (k : ℕ) → During next m calls c k → Writes C k (c .number) → Effect next m calls c k
   effect c k D E =
       let (P, at) = wrote (M k) (calls k) (c .number) E in
-      record { during = D; by = calls k .task; after = at .0; steps = passed-steps k P; at-h7 = at .1;
+      record {
+        during = D;
+        by = calls k .task;
+        after = at .0;
+        steps = passed-steps k P;
+        at-h7 = at .1;
         alters = λ e. writes-alter C k (c .number) E (subst
-          (λ (t : Terms). S C (suc k) .cell (spotOf t) (t .field) ≡ S C k .cell (spotOf t) (t .field)) (sym (terms-at c k D E))
-          (cell-is (suc k) (spot next m calls c) (c .field) (spot-inside c) ∙ e ∙ sym (cell-is k (spot next m calls c) (c .field) (spot-inside c)))) }
+            (λ (t : Terms). S C (suc k) .cell (spotOf t) (t .field) ≡ S C k .cell (spotOf t) (t .field)) (sym (terms-at c k D E))
+            (cell-is (suc k) (spot next m calls c) (c .field) (spot-inside c) ∙ e ∙ sym (cell-is k (spot next m calls c) (c .field) (spot-inside c))));
+      }
 
   pub effect-of : (k u : ℕ) → Writes C k u → (c : Ch) × (c .number ≡ u) × Effect next m calls c k
   effect-of k u E =
       let (s, h, B, W) = born C k u (write-live C k u E) in
       let (c, e, q) = change-of m calls R s u B in
       let D = during m calls R c k (subst (λ s. s < k) (sym e) h)
-                (λ i a b z. W i (subst (λ s. suc s ≤ i) e a) b (subst (λ u. (t : Terms) × (C .act i ≡ make u t)) q z)) in
+      (λ i a b z. W i (subst (λ s. suc s ≤ i) e a) b (subst (λ u. (t : Terms) × (C .act i ≡ make u t)) q z)) in
       (c, q, effect c k D (E ∙ ap write (sym q)))
 
   -- an effect at k of a change, at j of another taking of the same number, is of one change
   pub same-change : (c d : Ch) (k : ℕ) → During next m calls c k → During next m calls d k → c .number ≡ d .number → c .start ≡ d .start
   same-change c d k A B e = ⊎-elim (λ q. q)
-    (λ n. ⊎-elim (λ l. absurd (A .alone d (omega arith) (B .later) (sym e))) (λ l. absurd (B .alone c l (A .later) e)) (leb-case (c .start) (d .start)))
-    (same? (c .start) (d .start))
+      (λ n. ⊎-elim (λ l. absurd (A .alone d (omega arith) (B .later) (sym e))) (λ l. absurd (B .alone c l (A .later) e)) (leb-case (c .start) (d .start)))
+      (same? (c .start) (d .start))
 
   -- "alters its one field exactly once"
   pub once : (c : Ch) (j k : ℕ) → Effect next m calls c j → Effect next m calls c k → j ≡ k
@@ -109,19 +117,20 @@ module _ (m : Machine) (calls : ℕ → Call) (R : Run m calls) where
     where
       twice : (j k : ℕ) → Effect next m calls c j → Effect next m calls c k → j < k → ⊥
       twice j k E D l = one-write C (c .number) j k (writes c j E) (writes c k D) l
-        (λ i a b. alone m calls R c k (D .during) i (omega (arith, E .during .later)) b)
+          (λ i a b. alone m calls R c k (D .during) i (omega (arith, E .during .later)) b)
 
   pub alters-its-field : (c : Ch) (k : ℕ) → Effect next m calls c k
-    → (cell next m calls k (spot next m calls c) (c .field) ≡ cellAt (linkAt (M (c .start)) (c .task) (spot next m calls c) .cells) (c .field))
+      → (cell next m calls k (spot next m calls c) (c .field) ≡ cellAt (linkAt (M (c .start)) (c .task) (spot next m calls c) .cells) (c .field))
       × (cell next m calls (suc k) (spot next m calls c) (c .field) ≡ record { value = c .new; stamp = c .number })
   alters-its-field c k E =
-      let (a, b) = write-alters C (c .start) (c .number) (terms m calls R c) (makes m calls R c) k (E .during .later) (alone m calls R c k (E .during)) (writes c k E) in
-      (sym (cell-is k (spot next m calls c) (c .field) (spot-inside c)) ∙ a,
-       sym (cell-is (suc k) (spot next m calls c) (c .field) (spot-inside c)) ∙ b)
+      let (a, b) = write-alters C (c .start) (c .number) (terms m calls R c) (makes m calls R c) k (E .during .later) (alone m calls R c k (E .during)) (writes c k E) in (
+        sym (cell-is k (spot next m calls c) (c .field) (spot-inside c)) ∙ a,
+        sym (cell-is (suc k) (spot next m calls c) (c .field) (spot-inside c)) ∙ b,
+      )
 
   -- "A change without effect alters no field"
   pub by-an-effect : (k r f : ℕ) → r < m .n
-    → (cell next m calls (suc k) r f ≡ cell next m calls k r f) ⊎ ((c : Ch) × Effect next m calls c k × (r ≡ spot next m calls c) × (f ≡ c .field))
+      → (cell next m calls (suc k) r f ≡ cell next m calls k r f) ⊎ ((c : Ch) × Effect next m calls c k × (r ≡ spot next m calls c) × (f ≡ c .field))
   by-an-effect k r f h = ⊎-elim (λ e. inl (sym (cell-is (suc k) r f h) ∙ e ∙ cell-is k r f h))
       (λ (w : Wrote (S C k) (C .act k) r f). inr (by w)) (alters-by C k r f)
     where
@@ -136,12 +145,13 @@ module _ (m : Machine) (calls : ℕ → Call) (R : Run m calls) where
 
   -- "From that moment, records it closes never alter"
   pub closed : (c : Ch) (k : ℕ) → Effect next m calls c k → (r : ℕ) → Closes next m calls c r → (j : ℕ) → k < j
-    → Still next m calls j r × (mark next m calls (suc j) r ≡ mark next m calls j r) × (info next m calls (suc j) r ≡ info next m calls j r)
+      → Still next m calls j r × (mark next m calls (suc j) r ≡ mark next m calls j r) × (info next m calls (suc j) r ≡ info next m calls j r)
   closed c k E r (i, h, q, e) j l =
       let (a, b, d) = stays-closed C (c .start) (c .number) (terms m calls R c) (makes m calls R c) k (E .during .later)
-                        (alone m calls R c k (E .during)) (writes c k E) i h q j l in
+      (alone m calls R c k (E .during)) (writes c k E) i h q j l in
       let n = inside c i h in
-      subst (λ r. Still next m calls j r × (mark next m calls (suc j) r ≡ mark next m calls j r) × (info next m calls (suc j) r ≡ info next m calls j r)) e
-      (λ f. sym (cell-is (suc j) _ f n) ∙ a f ∙ cell-is j _ f n,
-       ap (λ (x : Record). x .mark) (sym (is-in (suc j) _ n)) ∙ b ∙ ap (λ (x : Record). x .mark) (is-in j _ n),
-       ap (λ (x : Record). x .info) (sym (is-in (suc j) _ n)) ∙ d ∙ ap (λ (x : Record). x .info) (is-in j _ n))
+      subst (λ r. Still next m calls j r × (mark next m calls (suc j) r ≡ mark next m calls j r) × (info next m calls (suc j) r ≡ info next m calls j r)) e (
+        λ f. sym (cell-is (suc j) _ f n) ∙ a f ∙ cell-is j _ f n,
+        ap (λ (x : Record). x .mark) (sym (is-in (suc j) _ n)) ∙ b ∙ ap (λ (x : Record). x .mark) (is-in j _ n),
+        ap (λ (x : Record). x .info) (sym (is-in (suc j) _ n)) ∙ d ∙ ap (λ (x : Record). x .info) (is-in j _ n),
+      )

@@ -1,22 +1,16 @@
 -- EVERY ORDER: any calls from any fresh table meet demand 3. And in the base a number is given once, so that a change keeps its number
 -- for good.
-use Prim.Native.Nat.{ℕ, suc, _+_, _≤_, _<_}
-use mathlib.Core.Path.{_≡_, refl, sym, ap, _∙_}
+use Prim.Native.Nat.{ℕ}
+use mathlib.Core.Path.{_≡_}
 use mathlib.Core.Bool.{true}
-use mathlib.Core.Logic.{⊎-elim}
 use mathlib.Core.List.{List}
-use native.Mathlib.Omega.{arith}
-use native.Mathlib.Nat.{le-refl}
 use lib.ListN.{length}
 use Rattle.table.specs.Fresh.{inRange, fresh}
 use Rattle.rules.specs.Next.{next}
-use Rattle.keeps.proofs.Fixed.{used-rises}
-use Rattle.clauses.proofs.Updates.{same?, leb-case, le-split}
-use Rattle.orders.specs.Demand.{before, Change, During, Demand3}
-use Rattle.orders.proofs.Words.{Machine, Call, Own, H1}
+use Rattle.orders.specs.Demand.{Demand3}
+use Rattle.orders.proofs.Words.{Machine, Call}
 use Rattle.orders.proofs.Run.{Run}
 use Rattle.orders.proofs.FromFresh.{run}
-use Rattle.orders.proofs.Changes.{number-is, passes}
 use Rattle.orders.proofs.Effects.{once, alters-its-field, by-an-effect, of-one-change, closed}
 use Rattle.orders.proofs.Untouched.{untouched}
 use Rattle.orders.proofs.Verdicts.{yes-after, no-never, agree, no-because}

@@ -13,7 +13,7 @@ use Rattle.orders.specs.Demand.{Brings, at-h3, at-h4, at-h8, Works, h1, 
 -- what a move is to a task that works on u and, at H3, read allFrozen
 abbrev pub Finishing : ℕ → After → Bool → Place → Move → Type 0
 Finishing u after frozen q v = (Works u after (v .place) × (v .answer ≡ Accepted))
-  ⊎ ((yes : Bool) × Brings u after frozen q yes × (v .place ≡ leads after yes) × (v .answer ≡ answers after yes))
+    ⊎ ((yes : Bool) × Brings u after frozen q yes × (v .place ≡ leads after yes) × (v .answer ≡ answers after yes))
 
 told : (u : ℕ) (after : After) (frozen : Bool) (q : Place) (yes : Bool) → Brings u after frozen q yes → Finishing u after frozen q (verdict yes after)
 told u Own frozen q true B = inr (true, B, refl, refl)
@@ -36,7 +36,7 @@ works-mark : (u i : ℕ) (after : After) → Works u after (atMark u i after)
 works-mark u i after = works-pick u after (ltb i 4) (H6 u i after) (H7 u after) h6 h7
 
 pub finishing : (u : ℕ) (after : After) (q : Place) → Works u after q → (s : Seen) (ch : Change) (linked : ℕ)
-  → Finishing u after (s .bit) q (resume q s ch linked)
+    → Finishing u after (s .bit) q (resume q s ch linked)
 finishing u after q (h1 {i = i}) s ch linked =
     inl (works-pick u after (s .bit) (afterHeld u i (ch .n) after) (H2 u i after) (works-held u i (ch .n) after) h2, refl)
 finishing u after q (h2 {i = i}) s ch linked =

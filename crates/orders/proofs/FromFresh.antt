@@ -1,9 +1,9 @@
 -- Every run from a fresh table is one: at the start nothing is held, linked or busy; the shape and the arrays' lengths stay, and every
 -- call is a turn.
-use Prim.Native.Nat.{ℕ, zero, suc, _+_, _≤_, _<_}
+use Prim.Native.Nat.{ℕ, zero, suc, _≤_, _<_}
 use mathlib.Core.Path.{_≡_, refl, sym, ap, _∙_, subst}
 use mathlib.Core.Bool.{Bool, true, false, true≢false}
-use mathlib.Core.Logic.{inl, inr, _≢_}
+use mathlib.Core.Logic.{inl}
 use mathlib.Core.List.{List}
 use native.Mathlib.Omega.{arith}
 use native.Mathlib.Nat.{le-refl}
@@ -11,12 +11,11 @@ use lib.ListN.{getD, length, replicate, getD-replicate}
 use lib.Dec.{ltb}
 use borrow.Author.Tests.{ltb-true}
 use Rattle.orders.proofs.Words.{Counts, Accepted, Refused}
-use Rattle.orders.proofs.Words.{Aborted, Machine, Record, Task, Link, Place, Idle, Own, H1, AskLlx, AskScx, AskVlx, AskRead, AskStep, Ask, Call, Check, Passed, Failed, Move, Out}
-use Rattle.table.specs.Table.{pick, noCells, maxRecords, noTask, noLink, cellAt, taskAt, linkAt, slot}
+use Rattle.orders.proofs.Words.{Machine, Task, Link, Idle, AskLlx, AskScx, AskVlx, AskRead, AskStep, Ask, Call, Check, Passed, Failed, Out}
+use Rattle.table.specs.Table.{pick, noCells, maxRecords, noTask, noLink, taskAt, slot}
 use Rattle.table.specs.Fresh.{idleTask, emptyRecord, emptyLink, freshRecords, freshMachine, inRange, fresh}
-use Rattle.rules.specs.Access.{changeOf}
-use Rattle.rules.specs.Perform.{seen, perform}
-use Rattle.rules.specs.Step.{taskBy, settle, accessAt, moveAt, step}
+use Rattle.rules.specs.Perform.{perform}
+use Rattle.rules.specs.Step.{settle, step}
 use Rattle.rules.specs.Start.{start}
 use Rattle.rules.specs.Shape.{shape, inShape, InShape}
 use Rattle.rules.specs.Refuse.{check, rulesOf}
@@ -31,7 +30,7 @@ use Rattle.clauses.proofs.History.{none-yet}
 use Rattle.clauses.proofs.Clauses.{Live}
 use Rattle.clauses.proofs.Clauses.{Fine as Clauses}
 use Rattle.orders.specs.Demand.{before}
-use Rattle.orders.proofs.View.{recordIn, taskIn, linkIn, view}
+use Rattle.orders.proofs.View.{taskIn, linkIn, view}
 use Rattle.orders.proofs.Number.{info-known, stamp-known, live-known}
 use Rattle.orders.proofs.Settled.{steps-to, scx-starts}
 use Rattle.orders.proofs.Calls.{Passes, next-is, obeyed}
@@ -64,7 +63,7 @@ module _ (p n : ℕ) (values : List ℕ) (ok : inRange p n (length values) ≡ t
     where
       by : Bool → Out
       by b = pick b (record { m = freshMachine p n (freshRecords n values); answer = Accepted; cells = noCells })
-        (record { m = freshMachine 0 0 (replicate maxRecords emptyRecord); answer = Refused Counts; cells = noCells })
+          (record { m = freshMachine 0 0 (replicate maxRecords emptyRecord); answer = Refused Counts; cells = noCells })
 
   fresh-shaped : InShape from
   unfolding inShape InShape
@@ -77,7 +76,7 @@ module _ (p n : ℕ) (values : List ℕ) (ok : inRange p n (length values) ≡ t
   idle : (t : ℕ) → taskIn from t .place ≡ Idle
   unfolding freshMachine
   idle t = rw fresh-is (picked (λ (x : Task). x .place ≡ Idle) (ltb t p) (getD (replicate 8 idleTask) t noTask) noTask
-    (λ e. ap (λ (x : Task). x .place) (getD-replicate 8 t idleTask noTask (few t (ltb-true t p e)))) (λ e. refl))
+      (λ e. ap (λ (x : Task). x .place) (getD-replicate 8 t idleTask noTask (few t (ltb-true t p e)))) (λ e. refl))
     where
       few : (t : ℕ) → t < p → t < 8
       few t h = let q : from .p ≡ p = ap (λ (m : Machine). m .p) fresh-is in omega (arith, q, fine from fresh-shaped .p<9)
@@ -85,9 +84,9 @@ module _ (p n : ℕ) (values : List ℕ) (ok : inRange p n (length values) ≡ t
   unlinked : (t r : ℕ) → linkIn from t r .there ≡ false
   unfolding freshMachine
   unlinked t r = rw fresh-is (picked (λ (k : Link). k .there ≡ false) (ltb t p) (pick (ltb r n) (getD (replicate 256 emptyLink) (slot t r) noLink) noLink) noLink
-    (λ e. picked (λ (k : Link). k .there ≡ false) (ltb r n) (getD (replicate 256 emptyLink) (slot t r) noLink) noLink
+      (λ e. picked (λ (k : Link). k .there ≡ false) (ltb r n) (getD (replicate 256 emptyLink) (slot t r) noLink) noLink
       (λ q. ap (λ (k : Link). k .there) (getD-replicate 256 (slot t r) emptyLink noLink (inside t r (ltb-true t p e) (ltb-true r n q)))) (λ q. refl))
-    (λ e. refl))
+      (λ e. refl))
     where
       inside : (t r : ℕ) → t < p → r < n → slot t r < 256
       inside t r h l =
@@ -101,16 +100,17 @@ module _ (p n : ℕ) (values : List ℕ) (ok : inRange p n (length values) ≡ t
   -- no clause speaks of anything yet
   fresh-clauses : Clauses (view from) none-yet
   fresh-clauses = record {
-      ZERO = refl;
-      PAST = λ r. (le-refl 0, le-refl 0);
-      STAMP = λ r f l. inl (zero-is (stamp-known from F r f l) ∙ sym (zero-is (info-known from F r)));
-      CHANGES = λ u l. absurd (nobody u l);
-      PLACES = λ t. rw (idle t) tt;
-      LINKS = λ t r h. absurd (true≢false (sym h ∙ unlinked t r));
-    }
+    ZERO = refl;
+    PAST = λ r. (le-refl 0, le-refl 0);
+    STAMP = λ r f l. inl (zero-is (stamp-known from F r f l) ∙ sym (zero-is (info-known from F r)));
+    CHANGES = λ u l. absurd (nobody u l);
+    PLACES = λ t. rw (idle t) tt;
+    LINKS = λ t r h. absurd (true≢false (sym h ∙ unlinked t r));
+  }
     where
       F : Fine from
       F = fine from fresh-shaped
+
       zero-is : {k : ℕ} → k ≤ from .used → k ≡ 0
       zero-is h = omega (arith, unused)
 
@@ -135,7 +135,7 @@ module _ (p n : ℕ) (values : List ℕ) (ok : inRange p n (length values) ≡ t
 
     -- where a task's own call leaves it
     place-after : (k : ℕ) (ask : Ask) → Passes (M k) (calls k) ask → calls k .task < M k .p
-      → taskAt (M (suc k)) (calls k .task) .place ≡ taskIn (accepted (M k) (calls k .task) ask (calls k .list) .m) (calls k .task) .place
+        → taskAt (M (suc k)) (calls k .task) .place ≡ taskIn (accepted (M k) (calls k .task) ask (calls k .list) .m) (calls k .task) .place
     unfolding before
     place-after k ask P h =
         let s = subst (λ q. calls k .task < q) (sym (same-counts (M k) (calls k) .0)) h in
@@ -154,7 +154,8 @@ module _ (p n : ℕ) (values : List ℕ) (ok : inRange p n (length values) ≡ t
       no-links = unlinked;
       turns = λ k G K. turn-of (M k) (fine (M k) (in-shape k)) (sized k) G K (calls k);
       step-place = λ k P. let h = obeyed (M k) (calls k) AskStep P .0 in
-        place-after k AskStep P h ∙ ap (λ (x : Task). x .place) (steps-to (M k) (fine (M k) (in-shape k)) (sized k) (calls k .task) h);
+          place-after k AskStep P h ∙ ap (λ (x : Task). x .place) (steps-to (M k) (fine (M k) (in-shape k)) (sized k) (calls k .task) h);
       scx-place = λ k n r written field new P. let h = obeyed (M k) (calls k) _ P .0 in
-        place-after k _ P h
-        ∙ ap (λ (x : Task). x .place) (scx-starts (M k) (fine (M k) (in-shape k)) (sized k) (calls k .task) h n r written field new (calls k .list)) }
+          place-after k _ P h
+          ∙ ap (λ (x : Task). x .place) (scx-starts (M k) (fine (M k) (in-shape k)) (sized k) (calls k .task) h n r written field new (calls k .list));
+    }

@@ -1,11 +1,9 @@
 -- A run whose tables are in shape and whose calls are turns is a course of the clauses.
-use Prim.Native.Nat.{ℕ, zero, suc, _+_, _<_}
-use mathlib.Core.Path.{_≡_, refl, ap, _∙_}
-use mathlib.Core.Bool.{true, false}
-use mathlib.Core.Logic.{_≢_}
-use lib.Dec.{ltb}
+use Prim.Native.Nat.{ℕ, suc, _+_, _<_}
+use mathlib.Core.Path.{_≡_, refl}
+use mathlib.Core.Bool.{false}
 use borrow.Author.Tests.{lt-ltb}
-use Rattle.orders.proofs.Words.{Machine, Own, H1, AskScx, AskStep, Call, Record, Task, Link}
+use Rattle.orders.proofs.Words.{Machine, Own, H1, AskScx, AskStep, Call}
 use Rattle.table.specs.Table.{recordAt, taskAt, linkAt}
 use Rattle.rules.specs.Step.{moveAt}
 use Rattle.rules.specs.Next.{next}
@@ -27,13 +25,13 @@ pub record Run (m : Machine) (calls : ℕ → Call) : Type 0 where
   pub no-changes : (u : ℕ) → Live (view (before next m calls 0)) u → ⊥
   pub no-links : (t r : ℕ) → linkIn (before next m calls 0) t r .there ≡ false
   pub turns : (k : ℕ) (G : Ghost) → Clauses (view (before next m calls k)) G
-    → Turn (view (before next m calls k)) (view (before next m calls (suc k))) G (calls k .task) (did (before next m calls k) (calls k))
+      → Turn (view (before next m calls k)) (view (before next m calls (suc k))) G (calls k .task) (did (before next m calls k) (calls k))
       (reading (before next m calls k) (calls k))
   -- where a step and the start of an SCX lead
   pub step-place : (k : ℕ) → Passes (before next m calls k) (calls k) AskStep
-    → taskAt (before next m calls (suc k)) (calls k .task) .place ≡ moveAt (before next m calls k) (calls k .task) .place
+      → taskAt (before next m calls (suc k)) (calls k .task) .place ≡ moveAt (before next m calls k) (calls k .task) .place
   pub scx-place : (k n r written field new : ℕ) → Passes (before next m calls k) (calls k) (AskScx n r written field new)
-    → taskAt (before next m calls (suc k)) (calls k .task) .place ≡ H1 (before next m calls k .used + 1) 0 Own
+      → taskAt (before next m calls (suc k)) (calls k .task) .place ≡ H1 (before next m calls k .used + 1) 0 Own
 
 abbrev pub course : (m : Machine) (calls : ℕ → Call) → Run m calls → Course
 course m calls R =

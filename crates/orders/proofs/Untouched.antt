@@ -1,28 +1,22 @@
 -- Each record that a change names has its linked read, and from its end to the effect nothing happens to the record.
-use Prim.Native.Nat.{ℕ, suc, _≤_, _<_}
-use mathlib.Core.Path.{_≡_, refl, sym, ap, _∙_, subst}
-use mathlib.Core.Bool.{Bool, true, false}
-use mathlib.Core.Logic.{_≢_}
-use mathlib.Core.List.{List}
-use native.Mathlib.Omega.{arith}
-use native.Mathlib.Nat.{le-refl}
-use lib.ListN.{getD}
-use Rattle.orders.proofs.Words.{Machine, Link, L6, AskScx, Ask, Call}
+use Prim.Native.Nat.{ℕ, suc, _<_}
+use mathlib.Core.Path.{_≡_, sym, ap, _∙_, subst}
+use mathlib.Core.Bool.{true}
+use Rattle.orders.proofs.Words.{Machine, Link, L6, Call}
 use Rattle.table.specs.Table.{taskAt, linkAt}
 use Rattle.rules.specs.Shape.{allLinked}
-use Rattle.rules.specs.Refuse.{listed, linkedAt}
+use Rattle.rules.specs.Refuse.{linkedAt}
 use Rattle.rules.specs.Next.{next}
 use Rattle.rules.proofs.Exact.{told}
 use Rattle.clauses.proofs.Memory.{Terms}
-use Rattle.clauses.proofs.Course.{Course, S, history}
-use Rattle.clauses.proofs.Came.{Writes}
-use Rattle.clauses.proofs.LinkedReads.{Ends, ReadAt, read-at}
+use Rattle.clauses.proofs.Course.{Course, history}
+use Rattle.clauses.proofs.LinkedReads.{Ends, read-at}
 use Rattle.clauses.proofs.Sentences.{untouched as none-touched}
-use Rattle.orders.specs.Demand.{before, Steps, Change, named, Names, During, Effect, Snap, Read, Still}
+use Rattle.orders.specs.Demand.{before, Steps, Change, named, Names, Effect, Snap, Read, Still}
 use Rattle.orders.proofs.View.{linkIn}
-use Rattle.orders.proofs.Calls.{Passes, obeyed, snapped, snap-ends}
+use Rattle.orders.proofs.Calls.{obeyed, snapped, snap-ends}
 use Rattle.orders.proofs.Run.{Run, course, link-in}
-use Rattle.orders.proofs.Changes.{by-task, by-list, passes, terms, makes, alone}
+use Rattle.orders.proofs.Changes.{by-task, passes, terms, makes, alone}
 use Rattle.orders.proofs.Effects.{cell-is, inside, step-passes, passed-steps, writes, terms-at}
 
 module _ (m : Machine) (calls : ℕ → Call) (R : Run m calls) where
@@ -40,13 +34,18 @@ module _ (m : Machine) (calls : ℕ → Call) (R : Run m calls) where
   snap-of e t r E =
       let (P, at, said) = snapped (M e) (calls e) (E .ends) in
       let (r′, m1, a, q, of) = at in
-      record { m1 = m1; a = a; steps = subst (λ t. Steps next m calls e t) (E .by) (passed-steps m calls R e P); answer = said;
-        at-l6 = subst (λ t. taskAt (M e) t .place ≡ L6 r m1 a) (E .by) (q ∙ ap (λ r. L6 r m1 a) (sym of ∙ E .of)) }
+      record {
+        m1 = m1;
+        a = a;
+        steps = subst (λ t. Steps next m calls e t) (E .by) (passed-steps m calls R e P);
+        answer = said;
+        at-l6 = subst (λ t. taskAt (M e) t .place ≡ L6 r m1 a) (E .by) (q ∙ ap (λ r. L6 r m1 a) (sym of ∙ E .of));
+      }
 
   ends-of : (e t r : ℕ) → Snap next m calls e t r → Ends C e t r
   ends-of e t r B =
       let (a, b) = snap-ends (M e) (calls e) (step-passes m calls R e t (B .steps)) r (B .m1) (B .a)
-                     (ap (λ t. taskAt (M e) t .place) (B .steps .by) ∙ B .at-l6) (B .answer) in
+      (ap (λ t. taskAt (M e) t .place) (B .steps .by) ∙ B .at-l6) (B .answer) in
       record { by = B .steps .by; ends = a; of = b }
 
   -- the links of a change's task to the records that it names stand at its start
@@ -56,42 +55,50 @@ module _ (m : Machine) (calls : ℕ → Call) (R : Run m calls) where
     where
       s : ℕ
       s = c .start
+
       go : linkedAt (M s) (calls s) ≡ true → (i : ℕ) → i < c .n → linkAt (M s) (c .task) (named next m calls c i) .there ≡ true
       go h = told 0 (allLinked (c .n) (c .list) (λ r. linkAt (M s) (c .task) r .there)) (rw (c .asks) at h)
 
   pub task-inside : (c : Ch) → c .task < m .p
   task-inside c = subst (λ q. c .task < q) (R .same-p (c .start))
-    (subst (λ t. t < M (c .start) .p) (by-task m calls R c) (obeyed (M (c .start)) (calls (c .start)) _ (passes m calls R c) .0))
+      (subst (λ t. t < M (c .start) .p) (by-task m calls R c) (obeyed (M (c .start)) (calls (c .start)) _ (passes m calls R c) .0))
 
   link-is : (c : Ch) (k i : ℕ) → i < c .n → linkIn (M k) (c .task) (named next m calls c i) ≡ linkAt (M k) (c .task) (named next m calls c i)
   link-is c k i h = link-in (M k) (c .task) (named next m calls c i) (subst (λ p. c .task < p) (sym (R .same-p k)) (task-inside c))
-    (subst (λ n. named next m calls c i < n) (sym (R .same-n k)) (inside m calls R c i h))
+      (subst (λ n. named next m calls c i < n) (sym (R .same-n k)) (inside m calls R c i h))
 
   -- THE LINKED READ of each record that a change names, with the time that the history has for it
   pub read-of : (c : Ch) (i : ℕ) → i < c .n
-    → (e : ℕ) × Read next m calls c (named next m calls c i) e × (history C (c .start) .read (C .who (c .start)) (named next m calls c i) ≡ suc e)
+      → (e : ℕ) × Read next m calls c (named next m calls c i) e × (history C (c .start) .read (C .who (c .start)) (named next m calls c i) ≡ suc e)
   read-of c i h =
       let r = named next m calls c i in
-      let (e, A) = read-at C (c .start) (c .task) r (ap (λ (k : Link). k .there) (link-is c (c .start) i h) ∙ linked c i h) in
-      (e, record {
+      let (e, A) = read-at C (c .start) (c .task) r (ap (λ (k : Link). k .there) (link-is c (c .start) i h) ∙ linked c i h) in (
+        e,
+        record {
           before-start = A .before;
           ends = snap-of e (c .task) r (A .ended);
           last = λ j a b B. A .last j a b (ends-of j (c .task) r B);
           stands = λ j a b. let q = sym (link-is c j i h) ∙ A .stands j a b ∙ link-is c (suc e) i h in
-            (ap (λ (k : Link). k .there) (q ∙ sym (link-is c (suc e) i h)) ∙ A .there, q) },
-        ap (λ t. history C (c .start) .read t r) (by-task m calls R c) ∙ A .time)
+              (ap (λ (k : Link). k .there) (q ∙ sym (link-is c (suc e) i h)) ∙ A .there, q);
+        },
+        ap (λ t. history C (c .start) .read t r) (by-task m calls R c) ∙ A .time,
+      )
 
   -- "From the end of each linked read to that moment .."
   pub untouched : (c : Ch) (k : ℕ) → Effect next m calls c k → (i : ℕ) → i < c .n
-    → (e : ℕ) × Read next m calls c (named next m calls c i) e
+      → (e : ℕ) × Read next m calls c (named next m calls c i) e
       × ((j : ℕ) → e < j → j < k
-        → Still next m calls j (named next m calls c i) × ((d : Ch) → Effect next m calls d j → Names next m calls d (named next m calls c i) → ⊥))
+      → Still next m calls j (named next m calls c i) × ((d : Ch) → Effect next m calls d j → Names next m calls d (named next m calls c i) → ⊥))
   untouched c k E i h =
-      let (e, A, time) = read-of c i h in
-      (e, A, λ j a b.
-        let (same, others) = none-touched C (c .start) (c .number) (terms m calls R c) (makes m calls R c) k (E .during .later)
-                               (alone m calls R c k (E .during)) (writes m calls R c k E) i e h time j a b in
-        (λ f. sym (cell-is m calls R (suc j) _ f (inside m calls R c i h)) ∙ same f ∙ cell-is m calls R j _ f (inside m calls R c i h),
-         λ d D N. let P = terms-at m calls R d j (D .during) (writes m calls R d j D) in
-           others (d .number) (writes m calls R d j D) (N .0) (subst (λ (t : Terms). N .0 < t .n) (sym P) (N .1))
-             (subst (λ (t : Terms). t .rec (N .0) ≡ named next m calls c i) (sym P) (N .2))))
+      let (e, A, time) = read-of c i h in (
+        e,
+        A,
+        λ j a b.
+            let (same, others) = none-touched C (c .start) (c .number) (terms m calls R c) (makes m calls R c) k (E .during .later)
+            (alone m calls R c k (E .during)) (writes m calls R c k E) i e h time j a b in (
+              λ f. sym (cell-is m calls R (suc j) _ f (inside m calls R c i h)) ∙ same f ∙ cell-is m calls R j _ f (inside m calls R c i h),
+              λ d D N. let P = terms-at m calls R d j (D .during) (writes m calls R d j D) in
+                  others (d .number) (writes m calls R d j D) (N .0) (subst (λ (t : Terms). N .0 < t .n) (sym P) (N .1))
+                  (subst (λ (t : Terms). t .rec (N .0) ≡ named next m calls c i) (sym P) (N .2)),
+            ),
+      )

@@ -1,16 +1,15 @@
 -- The sentences on verdicts: who finishes work on a change brings one, all agree, yes only after the effect, no only if there is none
 -- and another change took hold.
-use Prim.Native.Nat.{ℕ, zero, suc, _+_, _≤_, _<_}
+use Prim.Native.Nat.{ℕ, suc, _≤_, _<_}
 use mathlib.Core.Path.{_≡_, refl, sym, ap, _∙_, subst}
 use mathlib.Core.Bool.{Bool, true, false}
-use mathlib.Core.Logic.{_⊎_, inl, inr, _≢_, ⊎-elim}
+use mathlib.Core.Logic.{inr, _≢_, ⊎-elim}
 use mathlib.Core.List.{List}
 use native.Mathlib.Omega.{arith}
-use Rattle.orders.proofs.Words.{Cell, Record, After, Machine, Place, H1, H3, H4, H8, Task, Call}
-use Rattle.table.specs.Table.{changeAt, taskAt}
+use Rattle.orders.proofs.Words.{Cell, Record, After, Machine, Place, H1, Task, Call}
+use Rattle.table.specs.Table.{taskAt}
 use Rattle.rules.specs.Access.{changeOf}
 use Rattle.rules.specs.Next.{next}
-use Rattle.clauses.proofs.Updates.{tf}
 use Rattle.clauses.proofs.Memory.{Terms, Shared, make}
 use Rattle.clauses.proofs.History.{Ghost}
 use Rattle.clauses.proofs.Clauses.{OkOf, LostOf, At, Live}
@@ -20,8 +19,8 @@ use Rattle.clauses.proofs.Came.{Sets}
 use Rattle.clauses.proofs.Sentences.{happened, because, never}
 use Rattle.orders.specs.Demand.{Brings, at-h3, at-h4, at-h8, before, place, info, Steps, named, During, Effect, Holds, Read, Verdict}
 use Rattle.orders.specs.Demand.{Change as Made}
-use Rattle.orders.proofs.View.{shared, taskIn}
-use Rattle.orders.proofs.Calls.{Passes, obeyed, held}
+use Rattle.orders.proofs.View.{taskIn}
+use Rattle.orders.proofs.Calls.{obeyed, held}
 use Rattle.orders.proofs.Run.{Run, course, task-in}
 use Rattle.orders.proofs.Changes.{another, terms, makes, change-of, alone, during}
 use Rattle.orders.proofs.Effects.{is-in, inside, step-passes, passed-steps, writes, effect}
@@ -33,7 +32,7 @@ Tells S G u true = G .hap u ≡ true
 Tells S G u false = LostOf S G u
 
 tells : (S : Shared) (G : Ghost) (u : ℕ) → OkOf S G u → (cs : List Cell) (after : After) (q : Place) (v : Bool)
-  → Brings u after (S .frozen u) q v → At S G cs q → Tells S G u v
+    → Brings u after (S .frozen u) q v → At S G cs q → Tells S G u v
 tells S G u O cs after q v (at-h3 frozen) h = ⊎-elim (λ c. O .COMMITTED c) (λ l. lost-frozen S G u O l frozen) (h .1)
 tells S G u O cs after q v at-h4 h = h .1
 tells S G u O cs after q v at-h8 h = h .1
@@ -44,7 +43,7 @@ names u after frozen q v at-h4 = refl
 names u after frozen q v at-h8 = refl
 
 nonzero : (S : Shared) (G : Ghost) (cs : List Cell) (u : ℕ) (after : After) (frozen : Bool) (q : Place) (v : Bool)
-  → Brings u after frozen q v → At S G cs q → u ≢ 0
+    → Brings u after frozen q v → At S G cs q → u ≢ 0
 nonzero S G cs u after frozen q v (at-h3 e) h = h .0
 nonzero S G cs u after frozen q v at-h4 h = h .0
 nonzero S G cs u after frozen q v at-h8 h = h .0
@@ -74,11 +73,11 @@ module _ (m : Machine) (calls : ℕ → Call) (R : Run m calls) where
 
   verdict-live : (c : Ch) (k : ℕ) (v : Bool) → Verdict next m calls c k v → Live (X C k) (c .number)
   verdict-live c k v B = live-at k (B .by) (c .number) (B .steps) (names _ _ _ _ v (B .brings))
-    (nonzero (S C k) (H k) _ _ _ _ _ v (B .brings) (known-at k (B .by) (B .steps)))
+      (nonzero (S C k) (H k) _ _ _ _ _ v (B .brings) (known-at k (B .by) (B .steps)))
 
   said-of : (c : Ch) (k : ℕ) (v : Bool) → Verdict next m calls c k v → Tells (S C k) (H k) (c .number) v
   said-of c k v B = tells (S C k) (H k) (c .number) (fine C k .CHANGES (c .number) (verdict-live c k v B)) _ _ _ v (B .brings)
-    (known-at k (B .by) (B .steps))
+      (known-at k (B .by) (B .steps))
 
   -- "v only after the effect"
   pub yes-after : (c : Ch) (k : ℕ) → Verdict next m calls c k true → (j : ℕ) × (j < k) × Effect next m calls c j
@@ -90,7 +89,7 @@ module _ (m : Machine) (calls : ℕ → Call) (R : Run m calls) where
   -- "no only if there never is one"
   pub no-never : (c : Ch) (k : ℕ) → Verdict next m calls c k false → (j : ℕ) → Effect next m calls c j → ⊥
   no-never c k B j E = never C (c .start) (c .number) k j (B .during .later) (E .during .later) (alone m calls R c k (B .during))
-    (alone m calls R c j (E .during)) (verdict-live c k false B) (said-of c k false B) (writes m calls R c j E)
+      (alone m calls R c j (E .during)) (verdict-live c k false B) (said-of c k false B) (writes m calls R c j E)
 
   -- "All tasks that finish work on one change bring the same verdict"
   pub agree : (c : Ch) (j k : ℕ) (a b : Bool) → Verdict next m calls c j a → Verdict next m calls c k b → a ≡ b
@@ -103,9 +102,12 @@ module _ (m : Machine) (calls : ℕ → Call) (R : Run m calls) where
   pub change-at : (k u : ℕ) → Live (X C k) u → (c : Ch) × (c .number ≡ u) × During next m calls c k
   change-at k u l =
       let (s, h, B, W) = born C k u l in
-      let (c, e, q) = change-of m calls R s u B in
-      (c, q, during m calls R c k (subst (λ s. s < k) (sym e) h)
-        (λ i a b z. W i (subst (λ s. suc s ≤ i) e a) b (subst (λ u. (t : Terms) × (C .act i ≡ make u t)) q z)))
+      let (c, e, q) = change-of m calls R s u B in (
+        c,
+        q,
+        during m calls R c k (subst (λ s. s < k) (sym e) h)
+            (λ i a b z. W i (subst (λ s. suc s ≤ i) e a) b (subst (λ u. (t : Terms) × (C .act i ≡ make u t)) q z)),
+      )
 
   -- an H1 that sets an info is a change taking hold
   holds : (k x r : ℕ) → r < m .n → Sets C k x r → (d : Ch) × (d .number ≡ x) × Holds next m calls d k r
@@ -113,21 +115,30 @@ module _ (m : Machine) (calls : ℕ → Call) (R : Run m calls) where
       let (d, q, D) = change-at k x (B .live) in
       let (P, at) = held (M k) (calls k) x (B .i) (B .act) in
       let T : S C k .terms x ≡ terms m calls R d =
-            subst (λ x. S C k .terms x ≡ terms m calls R d) q (since-start C (d .start) (d .number) (terms m calls R d) k (makes m calls R d) (D .later)
-              (alone m calls R d k D) (subst (λ x. Live (X C k) x) (sym q) (B .live)) .0) in
-      (d, q, record { during = D; by = calls k .task; after = at .0; i = B .i; steps = passed-steps m calls R k P;
-        at-h1 = at .1 ∙ ap (λ x. H1 x (B .i) (at .0)) (sym q);
-        names = (subst (λ (t : Terms). B .i < t .n) T (B .inside), ap (λ (t : Terms). t .rec (B .i)) (sym T) ∙ B .rec);
-        takes = ap (λ (x : Record). x .info) (sym (is-in m calls R (suc k) r rl)) ∙ B .to ∙ sym q;
-        alters = λ e. B .from (ap (λ (x : Record). x .info) (is-in m calls R k r rl) ∙ e ∙ q) })
+      subst (λ x. S C k .terms x ≡ terms m calls R d) q (since-start C (d .start) (d .number) (terms m calls R d) k (makes m calls R d) (D .later)
+      (alone m calls R d k D) (subst (λ x. Live (X C k) x) (sym q) (B .live)) .0) in (
+        d,
+        q,
+        record {
+          during = D;
+          by = calls k .task;
+          after = at .0;
+          i = B .i;
+          steps = passed-steps m calls R k P;
+          at-h1 = at .1 ∙ ap (λ x. H1 x (B .i) (at .0)) (sym q);
+          names = (subst (λ (t : Terms). B .i < t .n) T (B .inside), ap (λ (t : Terms). t .rec (B .i)) (sym T) ∙ B .rec);
+          takes = ap (λ (x : Record). x .info) (sym (is-in m calls R (suc k) r rl)) ∙ B .to ∙ sym q;
+          alters = λ e. B .from (ap (λ (x : Record). x .info) (is-in m calls R k r rl) ∙ e ∙ q);
+        },
+      )
 
   -- "and another change took hold of a record it named after the linked read"
   pub no-because : (c : Ch) (k : ℕ) → Verdict next m calls c k false
-    → (d : Ch) × (i e h : ℕ) × (i < c .n) × Read next m calls c (named next m calls c i) e × (e < h) × (h < k) × (d .start ≢ c .start)
+      → (d : Ch) × (i e h : ℕ) × (i < c .n) × Read next m calls c (named next m calls c i) e × (e < h) × (h < k) × (d .start ≢ c .start)
       × Holds next m calls d h (named next m calls c i)
   no-because c k B =
       let (i, l, f) = because C (c .start) (c .number) (terms m calls R c) (makes m calls R c) k (B .during .later) (alone m calls R c k (B .during))
-                        (verdict-live c k false B) (said-of c k false B) in
+      (verdict-live c k false B) (said-of c k false B) in
       let (e, A, time) = read-of m calls R c i l in
       let (h, x, a, b, other, sets) = f e time in
       let (d, q, D) = holds h x (named next m calls c i) (inside m calls R c i l) sets in

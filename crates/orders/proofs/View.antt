@@ -1,7 +1,7 @@
 -- The table as the clauses see it, and what a call does there. Only what belongs to the table shows: its N records and P tasks; past
 -- them, where no accepted call looks, the defaults stand.
 use Prim.Native.Nat.{ℕ, _+_}
-use mathlib.Core.Bool.{Bool, true, false}
+use mathlib.Core.Bool.{false}
 use mathlib.Core.List.{List}
 use lib.Dec.{ltb}
 use Rattle.orders.proofs.Words.{Record, Task, Link, Machine, Ask, AskLlx, AskScx, AskVlx, AskRead, AskStep, Call, Check, Passed, Failed}

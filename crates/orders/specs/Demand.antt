@@ -152,7 +152,7 @@ module _ (next : Machine → Call → Out) (m : Machine) (calls : ℕ → Call) 
     pub ends : Snap e (c .task) r
     pub last : (j : ℕ) → e < j → j < c .start → Snap j (c .task) r → ⊥
     pub stands : (j : ℕ) → e < j → j ≤ c .start
-      → (linkAt (before j) (c .task) r .there ≡ true) × (linkAt (before j) (c .task) r ≡ linkAt (before (suc e)) (c .task) r)
+        → (linkAt (before j) (c .task) r .there ≡ true) × (linkAt (before j) (c .task) r ≡ linkAt (before (suc e)) (c .task) r)
 
   -- A VERDICT on c: call k ends some task's work on c, its owner's or a helper's, with yes or no
   pub record Verdict (c : Change) (k : ℕ) (yes : Bool) : Type 0 where
@@ -175,25 +175,25 @@ module _ (next : Machine → Call → Out) (m : Machine) (calls : ℕ → Call) 
     -- the new value with the change's number
     pub once : (c : Change) (j k : ℕ) → Effect c j → Effect c k → j ≡ k
     pub alters-its-field : (c : Change) (k : ℕ) → Effect c k
-      → (cell k (spot c) (c .field) ≡ cellAt (linkAt (before (c .start)) (c .task) (spot c) .cells) (c .field))
+        → (cell k (spot c) (c .field) ≡ cellAt (linkAt (before (c .start)) (c .task) (spot c) .cells) (c .field))
         × (cell (suc k) (spot c) (c .field) ≡ record { value = c .new; stamp = c .number })
     -- "From the end of each linked read to that moment, no field of a record it named altered and no other change naming that record
     -- took effect."
     pub untouched : (c : Change) (k : ℕ) → Effect c k → (i : ℕ) → i < c .n
-      → (e : ℕ) × Read c (named c i) e
+        → (e : ℕ) × Read c (named c i) e
         × ((j : ℕ) → e < j → j < k → Still j (named c i) × ((d : Change) → Effect d j → Names d (named c i) → ⊥))
     -- "From that moment, records it closes never alter": neither cells nor mark nor info
     pub closed : (c : Change) (k : ℕ) → Effect c k → (r : ℕ) → Closes c r → (j : ℕ) → k < j
-      → Still j r × (mark (suc j) r ≡ mark j r) × (info (suc j) r ≡ info j r)
+        → Still j r × (mark (suc j) r ≡ mark j r) × (info (suc j) r ≡ info j r)
     -- "A change without effect alters no field": what alters a field is the effect of the change that names it, and of no other
     pub by-an-effect : (k r f : ℕ) → r < m .n
-      → (cell (suc k) r f ≡ cell k r f) ⊎ ((c : Change) × Effect c k × (r ≡ spot c) × (f ≡ c .field))
+        → (cell (suc k) r f ≡ cell k r f) ⊎ ((c : Change) × Effect c k × (r ≡ spot c) × (f ≡ c .field))
     pub of-one-change : (c d : Change) (k : ℕ) → Effect c k → Effect d k → c .start ≡ d .start
     -- "All tasks that finish work on one change bring the same verdict"
     pub agree : (c : Change) (j k : ℕ) (a b : Bool) → Verdict c j a → Verdict c k b → a ≡ b
     -- who works on a change goes on, or finishes with a verdict on it, which is its answer and leads on
     pub finishes : (k t u : ℕ) (after : After) → Steps k t → Works u after (place k t)
-      → (Works u after (place (suc k) t) × (said k ≡ Accepted))
+        → (Works u after (place (suc k) t) × (said k ≡ Accepted))
         ⊎ ((c : Change) × (yes : Bool) × (c .number ≡ u) × Verdict c k yes × (place (suc k) t ≡ leads after yes) × (said k ≡ answers after yes))
     -- and an SCX works on its own change until it ends
     pub works : (c : Change) (k : ℕ) → Busy c k → Works (c .number) Own (place k (c .task)) × During c k
@@ -203,4 +203,4 @@ module _ (next : Machine → Call → Out) (m : Machine) (calls : ℕ → Call) 
     pub no-never : (c : Change) (k : ℕ) → Verdict c k false → (j : ℕ) → Effect c j → ⊥
     -- "and another change took hold of a record it named after the linked read"
     pub no-because : (c : Change) (k : ℕ) → Verdict c k false
-      → (d : Change) × (i e h : ℕ) × (i < c .n) × Read c (named c i) e × (e < h) × (h < k) × (d .start ≢ c .start) × Holds d h (named c i)
+        → (d : Change) × (i e h : ℕ) × (i < c .n) × Read c (named c i) e × (e < h) × (h < k) × (d .start ≢ c .start) × Holds d h (named c i)
