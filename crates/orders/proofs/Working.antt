@@ -20,7 +20,7 @@ use Rattle.clauses.proofs.Clauses.{At, Live}
 use Rattle.clauses.proofs.Steps.{Saw}
 use Rattle.clauses.proofs.Course.{Course, X, S, history, fine, not-taken}
 use Rattle.orders.specs.Demand.{Brings, at-h3, at-h4, at-h8, Works, h1, h2, h3, h4, h5, h6, h7, h8, leads, answers}
-use Rattle.orders.specs.Demand.{before, said, place, Steps, Change, During, Verdict, Busy}
+use Rattle.orders.specs.Demand.{before, said, place, Steps, Change, During, Verdict, Going}
 use Rattle.orders.proofs.Seen.{saw}
 use Rattle.orders.proofs.Calls.{Passes, next-is, obeyed}
 use Rattle.orders.proofs.Finishes.{Finishing, finishing}
@@ -120,12 +120,12 @@ module _ (m : Machine) (calls : ℕ → Call) (R : Run m calls) where
           )
 
   -- until it ends
-  own-work : (c : Ch) (k : ℕ) → Busy next m calls c k → Works (c .number) Own (place next m calls k (c .task))
+  own-work : (c : Ch) (k : ℕ) → Going next m calls (c .start) (c .task) k → Works (c .number) Own (place next m calls k (c .task))
   unfolding before
-  own-work c zero B = absurd (omega (arith, B .0))
+  own-work c zero B = absurd (omega (arith, B .later))
   own-work c (suc k) B = ⊎-elim
       (λ (e : k ≡ c .start). subst (λ k. Works (c .number) Own (place next m calls (suc k) (c .task))) (sym e) (rw (c .takes) h1))
-      (λ n. later (own-work c k (omega (arith, B .0), λ j a b. B .1 j a (omega arith)))) (same? k (c .start))
+      (λ n. later (own-work c k (record { later = omega (arith, B .later); busy = λ j a b. B .busy j a (omega arith) }))) (same? k (c .start))
     where
       inside : (k : ℕ) → c .task < M k .p
       inside k = subst (λ p. c .task < p) (sym (R .same-p k)) (task-inside m calls R c)
@@ -134,7 +134,7 @@ module _ (m : Machine) (calls : ℕ → Call) (R : Run m calls) where
           → Works (c .number) Own (place next m calls (suc k) (c .task))
       ended w P = ⊎-elim (λ h. h .0)
           (λ (h : (d : Ch) × (v : Bool) × (d .number ≡ c .number) × Verdict next m calls d k v × (place next m calls (suc k) (c .task) ≡ leads Own v)
-          × (said next m calls k ≡ answers Own v)). absurd (B .1 (suc k) (B .0) (le-refl _) (h .4)))
+          × (said next m calls k ≡ answers Own v)). absurd (B .busy (suc k) (B .later) (le-refl _) (h .4)))
           (finishes k (c .task) (c .number) Own P w)
 
       later : Works (c .number) Own (place next m calls k (c .task)) → Works (c .number) Own (place next m calls (suc k) (c .task))
@@ -143,12 +143,12 @@ module _ (m : Machine) (calls : ℕ → Call) (R : Run m calls) where
           (subst (λ t. Steps next m calls k t) (h .1) (passed-steps m calls R k (h .0))))
           (by-steps (M k) (calls k) (c .task) (inside k) (inside (suc k)) (works-on (c .number) Own _ w .1))
 
-  pub works : (c : Ch) (k : ℕ) → Busy next m calls c k → Works (c .number) Own (place next m calls k (c .task)) × During next m calls c k
-  works c k B = (own-work c k B, during m calls R c k (B .0) (λ i a b z. not-taken C i (c .number) (live i a b) z))
+  pub works : (c : Ch) (k : ℕ) → Going next m calls (c .start) (c .task) k → Works (c .number) Own (place next m calls k (c .task)) × During next m calls c k
+  works c k B = (own-work c k B, during m calls R c k (B .later) (λ i a b z. not-taken C i (c .number) (live i a b) z))
     where
       live : (i : ℕ) → c .start < i → i < k → Live (X C i) (c .number)
       live i a b =
-          let w = own-work c i (a, λ j p q. B .1 j p (omega arith)) in
+          let w = own-work c i (record { later = a; busy = λ j p q. B .busy j p (omega arith) }) in
           let e = task-in (M i) (c .task) (subst (λ p. c .task < p) (sym (R .same-p i)) (task-inside m calls R c)) in
           let h = subst (λ (x : Task). At (S C i) (history C i) (x .cells) (x .place)) e (fine C i .PLACES (c .task)) in (
             works-nonzero (S C i) (history C i) _ (c .number) Own _ w h,

@@ -166,9 +166,10 @@ module _ (next : Machine → Call → Out) (m : Machine) (calls : ℕ → Call) 
   abbrev pub Still : ℕ → ℕ → Type 0
   Still k r = (f : ℕ) → cell (suc k) r f ≡ cell k r f
 
-  -- the SCX of c has not ended: its task has been busy from the start to k
-  abbrev pub Busy : Change → ℕ → Type 0
-  Busy c k = (c .start < k) × ((j : ℕ) → c .start < j → j ≤ k → place j (c .task) ≢ Idle)
+  -- the operation that t started at s is in progress before call k: t has been busy since
+  pub record Going (s t k : ℕ) : Type 0 where
+    pub later : s < k
+    pub busy : (j : ℕ) → s < j → j ≤ k → place j t ≢ Idle
 
   pub record Demand3 : Type 0 where
     -- "A change that takes effect alters its one field exactly once": one effect at most, from the cell that the linked read saw to
@@ -196,7 +197,7 @@ module _ (next : Machine → Call → Out) (m : Machine) (calls : ℕ → Call) 
         → (Works u after (place (suc k) t) × (said k ≡ Accepted))
         ⊎ ((c : Change) × (yes : Bool) × (c .number ≡ u) × Verdict c k yes × (place (suc k) t ≡ leads after yes) × (said k ≡ answers after yes))
     -- and an SCX works on its own change until it ends
-    pub works : (c : Change) (k : ℕ) → Busy c k → Works (c .number) Own (place k (c .task)) × During c k
+    pub works : (c : Change) (k : ℕ) → Going (c .start) (c .task) k → Works (c .number) Own (place k (c .task)) × During c k
     -- "yes only after the effect"
     pub yes-after : (c : Change) (k : ℕ) → Verdict c k true → (j : ℕ) × (j < k) × Effect c j
     -- "no only if there never is one"

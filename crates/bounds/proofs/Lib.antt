@@ -1,0 +1,12 @@
+pub mod Rank
+pub mod Lower
+pub mod Exact
+pub mod Count
+pub mod Own
+pub mod Along
+pub mod Begun
+pub mod Most
+pub mod AloneLlx
+pub mod AloneScx
+pub mod Every
+pub mod Speaks

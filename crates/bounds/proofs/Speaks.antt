@@ -1,0 +1,85 @@
+-- The bounds speak of something: a run of one task on one record, in which an undisturbed LLX ends with its 9th own step and an undisturbed
+-- SCX that closes the record (n = 1, f = 1) with its 5th. The prover computes it.
+use Prim.Native.Nat.{ℕ, zero, suc, _<_}
+use mathlib.Core.Path.{_≡_, refl, sym, _∙_}
+use mathlib.Core.Bool.{false}
+use mathlib.Core.List.{List, [], _∷_}
+use lib.ListN.{getD}
+use native.Mathlib.Omega.{arith}
+use Rattle.clauses.proofs.Words.{Machine, Call, Ask, AskLlx, AskScx, AskStep, Idle, H1, H8, L6, Own, Accepted, Snapshot, Yes}
+use Rattle.table.specs.Table.{tabulate, sameCell, linkAt}
+use Rattle.table.specs.Fresh.{freshRecords, freshMachine, fresh}
+use Rattle.rules.specs.Perform.{seen, perform}
+use Rattle.rules.specs.Step.{dropFirst, settle, accessAt, moveAt, step}
+use Rattle.rules.specs.Claim.{both, given, allBelow}
+use Rattle.rules.specs.Shape.{shape, inShape}
+use Rattle.rules.specs.Start.{start}
+use Rattle.rules.specs.Refuse.{linkedAt, rulesOf}
+use Rattle.rules.specs.Next.{refused, started, next}
+use Rattle.orders.specs.Demand.{before, said, place, info, Change, named}
+use Rattle.bounds.specs.Bounds.{own, Starts, UndisturbedScx, UndisturbedLlx}
+
+abbrev asks : List Ask
+asks = AskLlx 0 ∷ AskStep ∷ AskStep ∷ AskStep ∷ AskStep ∷ AskStep ∷ AskStep ∷ AskStep ∷ AskStep ∷ AskStep ∷ AskScx 1 1 0 0 7 ∷ []
+
+abbrev calls : ℕ → Call
+calls k = record { task = 0; ask = getD asks k AskStep; list = 0 ∷ 0 ∷ 0 ∷ 0 ∷ [] }
+
+abbrev m : Machine
+m = fresh 1 1 (5 ∷ 5 ∷ 5 ∷ 5 ∷ []) .m
+
+pub llx-starts : Starts next m calls 0 0 (AskLlx 0)
+unfolding tabulate freshRecords freshMachine fresh seen perform dropFirst settle accessAt moveAt step both given allBelow shape inShape start linkedAt rulesOf refused started next before
+llx-starts = record { list = 0 ∷ 0 ∷ 0 ∷ 0 ∷ []; asks = refl; accepted = refl }
+
+pub llx-undisturbed : (k : ℕ) → UndisturbedLlx next m calls 0 0 0 k
+unfolding tabulate freshRecords freshMachine fresh before
+llx-undisturbed k = record {
+  no-mark = refl;
+  not-held = λ e. let z : _≡_ {A = ℕ} 0 1 = cc in absurd (omega arith);
+  untouched = λ j l h n. absurd (n refl);
+}
+
+pub llx-ends : (own next m calls 0 0 9 ≡ 8)
+    × (place next m calls 9 0 ≡ L6 0 false 0) × (said next m calls 9 ≡ Snapshot) × (place next m calls 10 0 ≡ Idle)
+unfolding tabulate freshRecords freshMachine fresh seen perform dropFirst settle accessAt moveAt step both given allBelow shape inShape start linkedAt rulesOf refused started next before own
+llx-ends = (refl, refl, refl, refl)
+
+pub scx-starts : (said next m calls 10 ≡ Accepted) × (place next m calls 11 0 ≡ H1 1 0 Own)
+unfolding tabulate sameCell freshRecords freshMachine fresh seen perform dropFirst settle accessAt moveAt step both given allBelow shape inShape start linkedAt rulesOf refused started next before
+scx-starts = (refl, refl)
+
+abbrev pub change : Change next m calls
+change =
+    record {
+      start = 10;
+      task = 0;
+      n = 1;
+      list = 0 ∷ 0 ∷ 0 ∷ 0 ∷ [];
+      r = 1;
+      written = 0;
+      field = 0;
+      new = 7;
+      number = 1;
+      asks = refl;
+      accepted = scx-starts .0;
+      takes = scx-starts .1;
+    }
+
+-- neither has been altered since the table was made
+both-0 : (info next m calls 10 0 ≡ 0) × (linkAt (before next m calls 10) 0 0 .info ≡ 0)
+unfolding tabulate sameCell freshRecords freshMachine fresh seen perform dropFirst settle accessAt moveAt step both given allBelow shape inShape start linkedAt rulesOf refused started next before
+both-0 = (refl, refl)
+
+infos : (i : ℕ) → i < 1
+    → info next m calls 10 (named next m calls change i) ≡ linkAt (before next m calls 10) 0 (named next m calls change i) .info
+infos zero h = both-0 .0 ∙ sym (both-0 .1)
+infos (suc i) h = absurd (omega arith)
+
+pub scx-undisturbed : (k : ℕ) → UndisturbedScx next m calls change k
+scx-undisturbed k = record { linked = infos; untouched = λ j l h n i q. absurd (n refl) }
+
+pub scx-ends : (own next m calls 10 0 15 ≡ 4)
+    × (place next m calls 15 0 ≡ H8 1 Own) × (said next m calls 15 ≡ Yes) × (place next m calls 16 0 ≡ Idle)
+unfolding tabulate sameCell freshRecords freshMachine fresh seen perform dropFirst settle accessAt moveAt step both given allBelow shape inShape start linkedAt rulesOf refused started next before own
+scx-ends = (refl, refl, refl, refl)

@@ -1,0 +1,1 @@
+// No code: the own-step bounds, in specs/, and their proofs.
