@@ -6,7 +6,7 @@ use mathlib.Core.Logic.{_⊎_, inl, _≢_}
 use mathlib.Core.List.{List}
 use native.Mathlib.Omega.{arith}
 use lib.ListN.{set}
-use Rattle.clauses.proofs.Words.{Cell, Link, Place, Move}
+use Rattle.rules.specs.Words.{Cell, Link, Place, Move}
 use Rattle.rules.specs.Access.{changeOf}
 use Rattle.clauses.proofs.Memory.{Table, apply, Act, nop}
 use Rattle.clauses.proofs.History.{Ghost, Reading, note}

@@ -5,7 +5,7 @@ use mathlib.Core.Bool.{true, false}
 use mathlib.Core.Logic.{_⊎_, inl, inr, _≢_, ⊎-elim}
 use native.Mathlib.Omega.{arith}
 use native.Mathlib.Nat.{le-refl}
-use Rattle.clauses.proofs.Words.{Cell, InProgress}
+use Rattle.rules.specs.Words.{Cell, InProgress}
 use Rattle.clauses.proofs.Updates.{upd-hit, upd-miss, at, same?, tf, le-split, put-all, at-all}
 use Rattle.clauses.proofs.Memory.{Shared, spot, new-cell, apply}
 use Rattle.clauses.proofs.Memory.{Act, nop, hold, abort, freeze, close, write, commit, make}

@@ -5,7 +5,7 @@ use mathlib.Core.Bool.{true, false}
 use mathlib.Core.Logic.{_⊎_, inl, inr, ⊎-elim}
 use native.Mathlib.Omega.{arith}
 use Rattle.clauses.proofs.Updates.{at, same?, bool?, tf, leb-case}
-use Rattle.clauses.proofs.Words.{Cell, State, InProgress, Committed, Aborted}
+use Rattle.rules.specs.Words.{Cell, State, InProgress, Committed, Aborted}
 use Rattle.clauses.proofs.Memory.{Shared}
 use Rattle.clauses.proofs.Memory.{hold, write}
 use Rattle.clauses.proofs.History.{Ghost}

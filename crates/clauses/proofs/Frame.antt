@@ -6,7 +6,7 @@ use mathlib.Core.Logic.{_⊎_, inl, inr, _≢_, ⊎-elim}
 use mathlib.Core.List.{List}
 use native.Mathlib.Omega.{arith}
 use Rattle.clauses.proofs.Updates.{upd, upd-hit, upd-miss, at, same?, at-all}
-use Rattle.clauses.proofs.Words.{Cell, InProgress}
+use Rattle.rules.specs.Words.{Cell, InProgress}
 use Rattle.clauses.proofs.Memory.{Shared, apply}
 use Rattle.clauses.proofs.Memory.{Act, nop, hold, abort, freeze, close, write, commit, make}
 use Rattle.clauses.proofs.History.{Reading}
@@ -173,14 +173,7 @@ module _ (S : Shared) (G : Ghost) (t : ℕ) (k : Reading) where
 
   pub now-suc : (b : Act) → note t b k S G .now ≡ suc (G .now)
   unfolding note
-  now-suc nop = refl
-  now-suc (hold x i) = refl
-  now-suc (abort x) = refl
-  now-suc (freeze x) = refl
-  now-suc (close x i) = refl
-  now-suc (write x) = refl
-  now-suc (commit x) = refl
-  now-suc (make x c) = refl
+  now-suc b = refl
 
   -- so anchors stay
   pub stay-anchor : (b : Act) → Guard S G t b → (r a e : ℕ) → Off b a → Anchor S G r a e → Anchor (apply b S) (note t b k S G) r a e

@@ -3,7 +3,7 @@ use Prim.Native.Nat.{ℕ, _<_}
 use mathlib.Core.Path.{_≡_, refl}
 use mathlib.Core.Bool.{true}
 use mathlib.Core.Logic.{_≢_, ⊎-elim}
-use Rattle.clauses.proofs.Words.{State, InProgress, Committed, Aborted}
+use Rattle.rules.specs.Words.{State, InProgress, Committed, Aborted}
 use Rattle.clauses.proofs.Updates.{upd, at, tf}
 use Rattle.clauses.proofs.Memory.{Shared, apply}
 use Rattle.clauses.proofs.Memory.{nop, abort, freeze, close, commit}

@@ -3,7 +3,7 @@ use Prim.Native.Nat.{ℕ, _<_}
 use mathlib.Core.Path.{_≡_, refl, sym, ap, _∙_, subst}
 use mathlib.Core.Bool.{Bool, true, false}
 use mathlib.Core.Logic.{_⊎_, inl, inr, _≢_, ⊎-elim}
-use Rattle.clauses.proofs.Words.{InProgress}
+use Rattle.rules.specs.Words.{InProgress}
 use Rattle.clauses.proofs.Updates.{upd, upd-hit, at}
 use Rattle.clauses.proofs.Memory.{Terms, Shared, spot, apply}
 use Rattle.clauses.proofs.Memory.{hold}

@@ -3,7 +3,7 @@ use Prim.Native.Nat.{ℕ}
 use mathlib.Core.Path.{refl}
 use mathlib.Core.Bool.{false}
 use mathlib.Core.Logic.{⊎-elim}
-use Rattle.clauses.proofs.Words.{InProgress}
+use Rattle.rules.specs.Words.{InProgress}
 use Rattle.clauses.proofs.Updates.{upd-hit, upd-miss, tf}
 use Rattle.clauses.proofs.Memory.{Terms, Shared, apply}
 use Rattle.clauses.proofs.Memory.{make}

@@ -3,7 +3,7 @@ use Prim.Native.Nat.{ℕ, _<_}
 use mathlib.Core.Path.{_≡_, refl, sym, ap, _∙_, subst}
 use mathlib.Core.Bool.{true, false}
 use mathlib.Core.Logic.{_⊎_, inl, inr, _≢_, ⊎-elim}
-use Rattle.clauses.proofs.Words.{Cell, InProgress, Committed}
+use Rattle.rules.specs.Words.{Cell, InProgress, Committed}
 use Rattle.clauses.proofs.Updates.{upd, upd-miss, at, tf, at-all}
 use Rattle.clauses.proofs.Memory.{Terms, Shared, spot, apply}
 use Rattle.clauses.proofs.Memory.{write}

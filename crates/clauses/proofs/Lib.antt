@@ -1,4 +1,3 @@
-pub mod Words
 pub mod Updates
 pub mod Memory
 pub mod History

@@ -6,7 +6,7 @@ use mathlib.Core.Bool.{true, true≢false}
 use mathlib.Core.Logic.{_⊎_, inl, inr, _≢_, ⊎-elim}
 use native.Mathlib.Omega.{arith}
 use native.Mathlib.Nat.{le-refl}
-use Rattle.clauses.proofs.Words.{Link}
+use Rattle.rules.specs.Words.{Link}
 use Rattle.clauses.proofs.Updates.{same?}
 use Rattle.clauses.proofs.History.{Ghost, read-by}
 use Rattle.clauses.proofs.Turn.{Relinked, read-is, read-other, read-now}

@@ -2,7 +2,7 @@
 -- writes of H1, H4, H5, H6, H7 and H8; the seventh is the start of an SCX, which fills in the change whose number it takes.
 use Prim.Native.Nat.{ℕ}
 use mathlib.Core.Bool.{Bool, true, false}
-use Rattle.clauses.proofs.Words.{Cell, State, InProgress, Committed, Aborted, Task, Link}
+use Rattle.rules.specs.Words.{Cell, State, InProgress, Committed, Aborted, Task, Link}
 use Rattle.clauses.proofs.Updates.{upd}
 
 -- what an SCX wrote down when it started: no step alters it

@@ -6,8 +6,8 @@ use mathlib.Core.Logic.{_⊎_, inl, inr, _≢_, ⊎-elim}
 use mathlib.Core.List.{List}
 use native.Mathlib.Omega.{arith}
 use native.Mathlib.Nat.{le-refl}
-use Rattle.clauses.proofs.Words.{Cell, InProgress, Committed, Link}
-use Rattle.clauses.proofs.Words.{Place, Idle, L1, L2, L3, L4, L5, L6, L7, L8, L9, L10, L11, H1, H2, H3, H4, H5, H6, H7, H8, Vlx, Read}
+use Rattle.rules.specs.Words.{Cell, InProgress, Committed, Link}
+use Rattle.rules.specs.Words.{Place, Idle, L1, L2, L3, L4, L5, L6, L7, L8, L9, L10, L11, H1, H2, H3, H4, H5, H6, H7, H8, Vlx, Read}
 use Rattle.table.specs.Table.{cellAt}
 use Rattle.rules.specs.Access.{changeOf}
 use Rattle.clauses.proofs.Updates.{at, at-all}

@@ -10,8 +10,8 @@ use lib.ListN.{length, set}
 use lib.Seq.{getD-set-same, getD-set-other}
 use lib.Dec.{eqb, ltb}
 use borrow.Author.Tests.{eqb-true, eqb-false, ltb-true, ltb-false}
-use Rattle.clauses.proofs.Words.{Cell, State, InProgress, Committed, Aborted, Link, After, AtL8, AtL11, Fail, Yes}
-use Rattle.clauses.proofs.Words.{L4, L5, L6, L7, H1, Vlx}
+use Rattle.rules.specs.Words.{Cell, State, InProgress, Committed, Aborted, Link, After, AtL8, AtL11, Fail, Yes}
+use Rattle.rules.specs.Words.{L4, L5, L6, L7, H1, Vlx}
 use Rattle.table.specs.Table.{pick, noCell, cellAt}
 use Rattle.rules.specs.Resume.{on, onWith, done, snapshot, noAndDrop}
 use Rattle.rules.specs.Resume.{afterL4, afterL5, afterL6, afterL7, afterL8, afterL10, afterL11, afterVlx}

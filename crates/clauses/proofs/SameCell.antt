@@ -3,7 +3,7 @@ use mathlib.Core.Path.{_≡_, refl}
 use mathlib.Core.Bool.{Bool, true, false}
 use lib.Dec.{eqb}
 use borrow.Author.Tests.{eqb-true, eq-eqb}
-use Rattle.clauses.proofs.Words.{Cell}
+use Rattle.rules.specs.Words.{Cell}
 use Rattle.table.specs.Table.{pick, sameCell}
 use Rattle.clauses.proofs.Updates.{tf}
 

@@ -4,8 +4,8 @@ use mathlib.Core.Path.{_≡_}
 use mathlib.Core.Bool.{Bool, false}
 use lib.ListN.{getD}
 use lib.Dec.{eqb}
-use Rattle.clauses.proofs.Words.{Change, Seen}
-use Rattle.clauses.proofs.Words.{Place, Idle, L1, L2, L3, L4, L5, L6, L7, L8, L9, L10, L11, H1, H2, H3, H4, H5, H6, H7, H8, Vlx, Read}
+use Rattle.rules.specs.Words.{Change, Seen}
+use Rattle.rules.specs.Words.{Place, Idle, L1, L2, L3, L4, L5, L6, L7, L8, L9, L10, L11, H1, H2, H3, H4, H5, H6, H7, H8, Vlx, Read}
 use Rattle.table.specs.Table.{pick, sameCell}
 use Rattle.clauses.proofs.Memory.{Terms, Shared, spot, Act, nop, hold, abort, freeze, close, write, commit}
 

@@ -3,7 +3,7 @@ use Prim.Native.Nat.{ℕ, suc}
 use mathlib.Core.Path.{_≡_, refl, sym, ap, _∙_, subst}
 use mathlib.Core.Bool.{Bool, true, false, true≢false}
 use mathlib.Core.Logic.{_⊎_, inl, inr, _≢_, ⊎-elim}
-use Rattle.clauses.proofs.Words.{InProgress, Aborted, Link}
+use Rattle.rules.specs.Words.{InProgress, Aborted, Link}
 use Rattle.table.specs.Table.{pick}
 use Rattle.rules.specs.Access.{changeOf}
 use Rattle.clauses.proofs.Updates.{upd, upd-hit, upd-miss, at, same?}
@@ -67,14 +67,7 @@ off-link X b m l h there = (off X b m _ (λ x F. h x F there .0), λ f q. off X 
 -- the time of a linked read
 pub read-is : (t : ℕ) (b : Act) (k : Reading) (S : Shared) (G : Ghost) → note t b k S G .read ≡ read-by t k (suc (G .now)) (G .read)
 unfolding note
-read-is t nop k S G = refl
-read-is t (hold x i) k S G = refl
-read-is t (abort x) k S G = refl
-read-is t (freeze x) k S G = refl
-read-is t (close x i) k S G = refl
-read-is t (write x) k S G = refl
-read-is t (commit x) k S G = refl
-read-is t (make x c) k S G = refl
+read-is t b k S G = refl
 
 pub read-other : (t : ℕ) (k : Reading) (m : ℕ) (R : ℕ → ℕ → ℕ) (s r : ℕ) → (s ≢ t) ⊎ (k .ends ≡ true → r ≢ k .at) → read-by t k m R s r ≡ R s r
 unfolding read-by

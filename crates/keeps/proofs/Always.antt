@@ -4,7 +4,7 @@ use mathlib.Core.Path.{_≡_, _∙_}
 use mathlib.Core.Bool.{true}
 use mathlib.Core.List.{List, [], _∷_}
 use lib.ListN.{length}
-use Rattle.keeps.proofs.Words.{Machine, Call}
+use Rattle.rules.specs.Words.{Machine, Call}
 use Rattle.table.specs.Fresh.{inRange, fresh}
 use Rattle.rules.specs.Shape.{inShape}
 use Rattle.rules.specs.Next.{next, after}

@@ -2,7 +2,7 @@
 use Prim.Native.Nat.{ℕ, _<_, _≤_}
 use native.Mathlib.Omega.{arith}
 use lib.ListN.{getD}
-use Rattle.keeps.proofs.Words.{Machine}
+use Rattle.rules.specs.Words.{Machine}
 use Rattle.keeps.proofs.Fine.{fine}
 use Rattle.keeps.proofs.Acts.{acts}
 use Rattle.keeps.proofs.Moves.{MoveFine, moves}

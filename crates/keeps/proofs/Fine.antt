@@ -2,7 +2,7 @@
 use Prim.Native.Nat.{ℕ, zero, suc, _<_, _≤_}
 use native.Mathlib.Omega.{arith}
 use native.Mathlib.Nat.{not-suc-le-zero}
-use Rattle.keeps.proofs.Words.{Machine}
+use Rattle.rules.specs.Words.{Machine}
 use Rattle.table.specs.Table.{recordAt, changeAt, linkAt}
 use Rattle.rules.specs.Claim.{Says}
 use Rattle.rules.specs.Shape.{recordFine, changeFine, taskFine, linkFine, shape, InShape}

@@ -10,7 +10,7 @@ use mathlib.Core.Bool.{Bool}
 use mathlib.Core.List.{List}
 use lib.ListN.{getD, set, length}
 use lib.Seq.{getD-set-same, getD-set-other, set-out}
-use Rattle.keeps.proofs.Words.{Cell, Change, Machine, Ask, AskLlx, AskScx, AskVlx, AskRead, AskStep, Access, Call, Check, Passed, Failed}
+use Rattle.rules.specs.Words.{Cell, Change, Machine, Ask, AskLlx, AskScx, AskVlx, AskRead, AskStep, Access, Call, Check, Passed, Failed}
 use Rattle.table.specs.Table.{noChange, changeAt}
 use Rattle.rules.specs.Access.{changeIn}
 use Rattle.rules.specs.Perform.{changeBy, perform}

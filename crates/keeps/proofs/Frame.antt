@@ -6,7 +6,7 @@ use mathlib.Core.Logic.{_≢_}
 use mathlib.Core.Bool.{true}
 use mathlib.Core.List.{List}
 use lib.ListN.{getD, set}
-use Rattle.keeps.proofs.Words.{Record, Change, Task, Link, Machine}
+use Rattle.rules.specs.Words.{Record, Change, Task, Link, Machine}
 use Rattle.keeps.proofs.Stores.{stored}
 use Rattle.keeps.proofs.Fine.{Fine}
 use Rattle.keeps.proofs.Places.{named, stays}

@@ -8,7 +8,7 @@ use mathlib.Core.List.{List, [], _∷_}
 use lib.ListN.{getD, length, replicate, getD-replicate}
 use lib.Dec.{ltb, leb, eqb, lit<}
 use borrow.Author.Tests.{ltb-true}
-use Rattle.keeps.proofs.Words.{Cell, Record, Change, Task, Link}
+use Rattle.rules.specs.Words.{Cell, Record, Change, Task, Link}
 use Rattle.keeps.proofs.Stores.{picked}
 use Rattle.keeps.proofs.Fine.{Fine, in-shape}
 use Rattle.keeps.proofs.Frame.{claimOf}

@@ -6,7 +6,7 @@ use mathlib.Core.Path.{_≡_, refl}
 use mathlib.Core.Bool.{true}
 use mathlib.Core.List.{List}
 use lib.ListN.{length}
-use Rattle.keeps.proofs.Words.{Machine, Ask, AskLlx, AskScx, AskVlx, AskRead, AskStep, Call, Check, Passed, Failed}
+use Rattle.rules.specs.Words.{Machine, Ask, AskLlx, AskScx, AskVlx, AskRead, AskStep, Call, Check, Passed, Failed}
 use Rattle.keeps.proofs.Fine.{Fine, fine, in-shape}
 use Rattle.keeps.proofs.Steps.{step-keeps}
 use Rattle.keeps.proofs.Starts.{llx-keeps, vlx-keeps, read-keeps}

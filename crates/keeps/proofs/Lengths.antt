@@ -5,10 +5,10 @@ use mathlib.Core.Bool.{true}
 use mathlib.Core.List.{List}
 use lib.ListN.{getD, set, length, length-set, length-replicate, getD-replicate}
 use lib.Dec.{ltb}
-use Rattle.keeps.proofs.Words.{Cell, Record, Change, Task, Link, Machine}
-use Rattle.keeps.proofs.Words.{Access, Nothing, ReadMark, ReadInfo, ReadCell, ReadState, ReadFrozen}
-use Rattle.keeps.proofs.Words.{Hold, Close, Write, Freeze, Abort, Commit}
-use Rattle.keeps.proofs.Words.{Ask, AskLlx, AskScx, AskVlx, AskRead, AskStep, Call, Check, Passed, Failed}
+use Rattle.rules.specs.Words.{Cell, Record, Change, Task, Link, Machine}
+use Rattle.rules.specs.Words.{Access, Nothing, ReadMark, ReadInfo, ReadCell, ReadState, ReadFrozen}
+use Rattle.rules.specs.Words.{Hold, Close, Write, Freeze, Abort, Commit}
+use Rattle.rules.specs.Words.{Ask, AskLlx, AskScx, AskVlx, AskRead, AskStep, Call, Check, Passed, Failed}
 use Rattle.keeps.proofs.Stores.{any, picked}
 use Rattle.keeps.proofs.Frame.{put}
 use Rattle.table.specs.Table.{pick, noRecord, noTask, cellAt, recordAt, taskAt, slot, sameCell}

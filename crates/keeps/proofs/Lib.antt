@@ -1,4 +1,3 @@
-pub mod Words
 pub mod Stores
 pub mod Fine
 pub mod Places

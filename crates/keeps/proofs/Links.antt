@@ -6,7 +6,7 @@ use mathlib.Core.Logic.{_≢_}
 use mathlib.Core.List.{List}
 use lib.ListN.{getD}
 use lib.Seq.{getD-set-other}
-use Rattle.keeps.proofs.Words.{Link}
+use Rattle.rules.specs.Words.{Link}
 use Rattle.keeps.proofs.Stores.{any}
 use Rattle.table.specs.Table.{noLink, slot}
 use Rattle.rules.specs.Step.{dropped, dropFirst}

@@ -9,9 +9,9 @@ use mathlib.Core.List.{List}
 use lib.ListN.{getD, set}
 use lib.Dec.{ltb, leb, eqb, lit<}
 use borrow.Author.Tests.{ltb-true, ltb-false, eqb-false}
-use Rattle.keeps.proofs.Words.{Cell, State, InProgress, Committed, Aborted, Change, After, Own, AtL8, AtL11, Machine}
-use Rattle.keeps.proofs.Words.{Answer, Fail, Yes, Seen, Move}
-use Rattle.keeps.proofs.Words.{Place, Idle, L1, L2, L3, L4, L5, L6, L7, L8, L9, L10, L11, H1, H2, H3, H4, H5, H6, H7, H8, Vlx, Read}
+use Rattle.rules.specs.Words.{Cell, State, InProgress, Committed, Aborted, Change, After, Own, AtL8, AtL11, Machine}
+use Rattle.rules.specs.Words.{Answer, Fail, Yes, Seen, Move}
+use Rattle.rules.specs.Words.{Place, Idle, L1, L2, L3, L4, L5, L6, L7, L8, L9, L10, L11, H1, H2, H3, H4, H5, H6, H7, H8, Vlx, Read}
 use Rattle.keeps.proofs.Stores.{stored, picked}
 use Rattle.keeps.proofs.Fine.{Fine}
 use Rattle.keeps.proofs.Places.{relinked}

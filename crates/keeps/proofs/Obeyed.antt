@@ -4,7 +4,7 @@ use native.Mathlib.Omega.{arith}
 use mathlib.Core.Path.{_≡_, refl}
 use mathlib.Core.Bool.{Bool, true, false}
 use mathlib.Core.List.{List, [], _∷_}
-use Rattle.keeps.proofs.Words.{Check, Passed, Failed}
+use Rattle.rules.specs.Words.{Check, Passed, Failed}
 use Rattle.table.specs.Table.{pick}
 use Rattle.rules.specs.Claim.{Says, test}
 use Rattle.rules.specs.Refuse.{Rule, check}

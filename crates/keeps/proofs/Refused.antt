@@ -8,11 +8,11 @@ use mathlib.Core.List.{List, _∷_}
 use lib.Dec.{eqb, ltb}
 use lib.Seq.{getD-set-other}
 use borrow.Author.Tests.{not-true}
-use Rattle.keeps.proofs.Words.{State, InProgress, Committed, Aborted, Change, After, Own, AtL8, AtL11, Machine, Seen, Move}
-use Rattle.keeps.proofs.Words.{Place, Idle, L1, L2, L3, L4, L5, L6, L7, L8, L9, L10, L11, H1, H2, H3, H4, H5, H6, H7, H8, Vlx, Read}
-use Rattle.keeps.proofs.Words.{Ask, AskLlx, AskScx, AskVlx, AskRead, AskStep, Call, Check, Passed, Failed}
-use Rattle.keeps.proofs.Words.{Refusal, OutOfShape, NoSuchTask, TaskIdle}
-use Rattle.keeps.proofs.Words.{Answer, Accepted, Snapshot, Finalized, Fail, Yes, No, Value, Refused}
+use Rattle.rules.specs.Words.{State, InProgress, Committed, Aborted, Change, After, Own, AtL8, AtL11, Machine, Seen, Move}
+use Rattle.rules.specs.Words.{Place, Idle, L1, L2, L3, L4, L5, L6, L7, L8, L9, L10, L11, H1, H2, H3, H4, H5, H6, H7, H8, Vlx, Read}
+use Rattle.rules.specs.Words.{Ask, AskLlx, AskScx, AskVlx, AskRead, AskStep, Call, Check, Passed, Failed}
+use Rattle.rules.specs.Words.{Refusal, OutOfShape, NoSuchTask, TaskIdle}
+use Rattle.rules.specs.Words.{Answer, Accepted, Snapshot, Finalized, Fail, Yes, No, Value, Refused}
 use Rattle.table.specs.Table.{pick, changeAt, taskAt, noChange}
 use Rattle.rules.specs.Resume.{on, done, snapshot, noAndDrop, verdict, afterL4, afterL7, afterL8, afterL10, afterHeld, firstFrom, resume}
 use Rattle.rules.specs.Step.{moveAt, step}

@@ -10,7 +10,7 @@ use mathlib.Core.List.{List}
 use lib.ListN.{getD, set, length}
 use lib.Seq.{getD-set-same, getD-set-other}
 use lib.Dec.{ltb}
-use Rattle.keeps.proofs.Words.{Own, Change, Task, Link, Machine, H1, AskScx}
+use Rattle.rules.specs.Words.{Own, Change, Task, Link, Machine, H1, AskScx}
 use Rattle.keeps.proofs.Stores.{picked, placed}
 use Rattle.keeps.proofs.Fine.{Fine}
 use Rattle.keeps.proofs.Frame.{Put, put-fine}

@@ -3,7 +3,7 @@
 use mathlib.Core.Path.{_≡_, refl, sym, _∙_}
 use mathlib.Core.Bool.{true, false, true≢false}
 use mathlib.Core.List.{[], _∷_}
-use Rattle.keeps.proofs.Words.{Machine, Call}
+use Rattle.rules.specs.Words.{Machine, Call}
 use Rattle.table.specs.Table.{tabulate}
 use Rattle.rules.specs.Step.{dropFirst}
 use Rattle.rules.specs.Claim.{both, given, allBelow}

@@ -7,7 +7,7 @@ use mathlib.Core.Logic.{_≢_}
 use mathlib.Core.Bool.{true, false≢true}
 use mathlib.Core.List.{List, [], _∷_}
 use lib.ListN.{getD}
-use Rattle.keeps.proofs.Words.{Task, Link, Machine, Place, L1, Vlx, Read, AskLlx, AskVlx, AskRead}
+use Rattle.rules.specs.Words.{Task, Link, Machine, Place, L1, Vlx, Read, AskLlx, AskVlx, AskRead}
 use Rattle.keeps.proofs.Fine.{Fine}
 use Rattle.keeps.proofs.Links.{drop-each, drop-apart}
 use Rattle.keeps.proofs.Frame.{put, claimOf, put-fine}

@@ -8,7 +8,7 @@ use mathlib.Core.Bool.{Bool, true, false≢true}
 use mathlib.Core.List.{List}
 use lib.ListN.{getD, set}
 use lib.Seq.{getD-set-other}
-use Rattle.keeps.proofs.Words.{Record, Change, Task, Link, Machine, Access, Seen, Move}
+use Rattle.rules.specs.Words.{Record, Change, Task, Link, Machine, Access, Seen, Move}
 use Rattle.keeps.proofs.Stores.{any, picked}
 use Rattle.keeps.proofs.Fine.{Fine}
 use Rattle.keeps.proofs.Places.{stays}

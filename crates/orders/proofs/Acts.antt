@@ -8,8 +8,8 @@ use lib.ListN.{getD, set, length}
 use lib.Seq.{getD-set-same, getD-set-other, set-getD}
 use lib.Dec.{eqb}
 use borrow.Author.Tests.{ne-eqb}
-use Rattle.orders.proofs.Words.{Cell, Record, State, InProgress, Committed, Aborted, Change}
-use Rattle.orders.proofs.Words.{Access, Hold, Close, Write, Freeze, Abort, Commit}
+use Rattle.rules.specs.Words.{Cell, Record, State, InProgress, Committed, Aborted, Change}
+use Rattle.rules.specs.Words.{Access, Hold, Close, Write, Freeze, Abort, Commit}
 use Rattle.table.specs.Table.{pick, noCell, noRecord, noChange, cellAt, stateOf, sameCell}
 use Rattle.rules.specs.Access.{recordOf, changeIn}
 use Rattle.rules.specs.Perform.{recordBy, changeBy}

@@ -6,11 +6,11 @@ use mathlib.Core.Bool.{Bool, true, false, true≢false, false≢true}
 use mathlib.Core.Logic.{_≢_}
 use native.Mathlib.Omega.{arith}
 use lib.Dec.{eqb, ltb}
-use Rattle.orders.proofs.Words.{State, InProgress, Committed, Aborted, After, Own, AtL8, AtL11, Change, Machine, Seen, Out, Move}
-use Rattle.orders.proofs.Words.{Place, Idle, L1, L2, L3, L4, L5, L6, L7, L8, L9, L10, L11, H1, H2, H3, H4, H5, H6, H7, H8, Vlx, Read}
-use Rattle.orders.proofs.Words.{ReadInfo}
-use Rattle.orders.proofs.Words.{Ask, AskLlx, AskScx, AskVlx, AskRead, AskStep, Call, Check, Passed, Failed}
-use Rattle.orders.proofs.Words.{Refusal, Accepted, Snapshot, Fail, Yes, Refused}
+use Rattle.rules.specs.Words.{State, InProgress, Committed, Aborted, After, Own, AtL8, AtL11, Change, Machine, Seen, Out, Move}
+use Rattle.rules.specs.Words.{Place, Idle, L1, L2, L3, L4, L5, L6, L7, L8, L9, L10, L11, H1, H2, H3, H4, H5, H6, H7, H8, Vlx, Read}
+use Rattle.rules.specs.Words.{ReadInfo}
+use Rattle.rules.specs.Words.{Ask, AskLlx, AskScx, AskVlx, AskRead, AskStep, Call, Check, Passed, Failed}
+use Rattle.rules.specs.Words.{Refusal, Accepted, Snapshot, Fail, Yes, Refused}
 use Rattle.table.specs.Table.{pick, taskAt, changeAt, linkAt}
 use Rattle.rules.specs.Access.{changeOf, recordOf, accessOf}
 use Rattle.rules.specs.Perform.{seen}

@@ -2,7 +2,7 @@
 use Prim.Native.Nat.{ℕ, suc, _+_, _<_}
 use mathlib.Core.Path.{_≡_, refl, sym, ap, _∙_, subst}
 use mathlib.Core.Logic.{_≢_}
-use Rattle.orders.proofs.Words.{Machine, Own, H1, AskScx, Call, Out}
+use Rattle.rules.specs.Words.{Machine, Own, H1, AskScx, Call, Out}
 use Rattle.table.specs.Table.{taskAt}
 use Rattle.rules.specs.Start.{filled}
 use Rattle.rules.specs.Next.{started, next}

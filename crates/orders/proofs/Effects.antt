@@ -6,7 +6,7 @@ use mathlib.Core.Logic.{_⊎_, inl, inr, ⊎-elim}
 use mathlib.Core.List.{List}
 use native.Mathlib.Omega.{arith}
 use lib.ListN.{getD}
-use Rattle.orders.proofs.Words.{Record, Machine, AskStep, Call}
+use Rattle.rules.specs.Words.{Record, Machine, AskStep, Call}
 use Rattle.table.specs.Table.{pick, cellAt, recordAt, taskAt, linkAt}
 use Rattle.rules.specs.Next.{next}
 use Rattle.keeps.proofs.Refused.{isRefusal, passed-answers}

@@ -8,7 +8,7 @@ use lib.ListN.{length}
 use Rattle.table.specs.Fresh.{inRange, fresh}
 use Rattle.rules.specs.Next.{next}
 use Rattle.orders.specs.Demand.{Demand3}
-use Rattle.orders.proofs.Words.{Machine, Call}
+use Rattle.rules.specs.Words.{Machine, Call}
 use Rattle.orders.proofs.Run.{Run}
 use Rattle.orders.proofs.FromFresh.{run}
 use Rattle.orders.proofs.Effects.{once, alters-its-field, by-an-effect, of-one-change, closed}

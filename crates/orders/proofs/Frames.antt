@@ -11,7 +11,7 @@ use lib.ListN.{getD, set}
 use lib.Seq.{getD-set-other, set-getD}
 use lib.Dec.{ltb}
 use borrow.Author.Tests.{ltb-true}
-use Rattle.orders.proofs.Words.{Task, Link, Machine, Ask, AskLlx, AskScx, AskVlx, AskRead, AskStep, Call, Check, Passed, Failed}
+use Rattle.rules.specs.Words.{Task, Link, Machine, Ask, AskLlx, AskScx, AskVlx, AskRead, AskStep, Call, Check, Passed, Failed}
 use Rattle.table.specs.Table.{pick, noTask, noLink, taskAt, linkAt, slot}
 use Rattle.rules.specs.Access.{recordOf}
 use Rattle.rules.specs.Perform.{seen, perform}

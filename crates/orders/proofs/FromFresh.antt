@@ -10,8 +10,8 @@ use native.Mathlib.Nat.{le-refl}
 use lib.ListN.{getD, length, replicate, getD-replicate}
 use lib.Dec.{ltb}
 use borrow.Author.Tests.{ltb-true}
-use Rattle.orders.proofs.Words.{Counts, Accepted, Refused}
-use Rattle.orders.proofs.Words.{Machine, Task, Link, Idle, AskLlx, AskScx, AskVlx, AskRead, AskStep, Ask, Call, Check, Passed, Failed, Out}
+use Rattle.rules.specs.Words.{Counts, Accepted, Refused}
+use Rattle.rules.specs.Words.{Machine, Task, Link, Idle, AskLlx, AskScx, AskVlx, AskRead, AskStep, Ask, Call, Check, Passed, Failed, Out}
 use Rattle.table.specs.Table.{pick, noCells, maxRecords, noTask, noLink, taskAt, slot}
 use Rattle.table.specs.Fresh.{idleTask, emptyRecord, emptyLink, freshRecords, freshMachine, inRange, fresh}
 use Rattle.rules.specs.Perform.{perform}

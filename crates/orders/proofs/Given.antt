@@ -7,7 +7,7 @@ use mathlib.Core.List.{List}
 use native.Mathlib.Omega.{arith}
 use native.Mathlib.Nat.{le-refl}
 use lib.ListN.{length}
-use Rattle.orders.proofs.Words.{Machine, Call, Out}
+use Rattle.rules.specs.Words.{Machine, Call, Out}
 use Rattle.table.specs.Fresh.{inRange, fresh}
 use Rattle.rules.specs.Start.{start}
 use Rattle.rules.specs.Next.{started, next}

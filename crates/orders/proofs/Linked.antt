@@ -8,9 +8,9 @@ use lib.ListN.{getD, set, length}
 use lib.Seq.{getD-set-same}
 use lib.Dec.{ltb, eqb}
 use borrow.Author.Tests.{lt-ltb}
-use Rattle.orders.proofs.Words.{State, InProgress, Committed, Aborted, Change, After, Own, AtL8, AtL11, Link, Machine}
-use Rattle.orders.proofs.Words.{Fail, Yes, Seen, Move}
-use Rattle.orders.proofs.Words.{Place, Idle, L1, L2, L3, L4, L5, L6, L7, L8, L9, L10, L11, H1, H2, H3, H4, H5, H6, H7, H8, Vlx, Read}
+use Rattle.rules.specs.Words.{State, InProgress, Committed, Aborted, Change, After, Own, AtL8, AtL11, Link, Machine}
+use Rattle.rules.specs.Words.{Fail, Yes, Seen, Move}
+use Rattle.rules.specs.Words.{Place, Idle, L1, L2, L3, L4, L5, L6, L7, L8, L9, L10, L11, H1, H2, H3, H4, H5, H6, H7, H8, Vlx, Read}
 use Rattle.table.specs.Table.{pick, noLink, changeAt, taskAt, slot, linkAt}
 use Rattle.rules.specs.Access.{changeOf, recordOf}
 use Rattle.rules.specs.Perform.{seen, perform}

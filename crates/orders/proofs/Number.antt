@@ -7,7 +7,7 @@ use mathlib.Core.Logic.{_⊎_, inl, inr, _≢_}
 use native.Mathlib.Omega.{arith}
 use lib.Dec.{ltb}
 use borrow.Author.Tests.{ltb-true}
-use Rattle.orders.proofs.Words.{Machine, Record, Link, Task}
+use Rattle.rules.specs.Words.{Machine, Record, Link, Task}
 use Rattle.table.specs.Table.{pick, noRecord, noTask, noLink, cellAt, recordAt, changeAt, taskAt, linkAt}
 use Rattle.rules.specs.Access.{changeOf}
 use Rattle.keeps.proofs.Fine.{Fine}

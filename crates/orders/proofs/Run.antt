@@ -3,7 +3,7 @@ use Prim.Native.Nat.{ℕ, suc, _+_, _<_}
 use mathlib.Core.Path.{_≡_, refl}
 use mathlib.Core.Bool.{false}
 use borrow.Author.Tests.{lt-ltb}
-use Rattle.orders.proofs.Words.{Machine, Own, H1, AskScx, AskStep, Call}
+use Rattle.rules.specs.Words.{Machine, Own, H1, AskScx, AskStep, Call}
 use Rattle.table.specs.Table.{recordAt, taskAt, linkAt}
 use Rattle.rules.specs.Step.{moveAt}
 use Rattle.rules.specs.Next.{next}

@@ -5,7 +5,7 @@ use mathlib.Core.Path.{_≡_, _∙_}
 use mathlib.Core.List.{List}
 use lib.ListN.{set, length}
 use lib.Seq.{getD-set-same}
-use Rattle.orders.proofs.Words.{Own, L1, H1, Vlx, Read, Task, Machine, AskLlx, AskScx, AskVlx, AskRead}
+use Rattle.rules.specs.Words.{Own, L1, H1, Vlx, Read, Task, Machine, AskLlx, AskScx, AskVlx, AskRead}
 use Rattle.table.specs.Table.{noTask, taskAt}
 use Rattle.rules.specs.Perform.{seen, perform}
 use Rattle.rules.specs.Step.{taskBy, settle, accessAt, moveAt, step}

@@ -8,7 +8,7 @@ use lib.ListN.{getD, set, length}
 use lib.Seq.{getD-set-same, getD-set-other}
 use lib.Dec.{ltb}
 use borrow.Author.Tests.{lt-ltb}
-use Rattle.orders.proofs.Words.{Record, Change}
+use Rattle.rules.specs.Words.{Record, Change}
 use Rattle.table.specs.Table.{pick, noRecord, noChange, cellAt, stateOf}
 use Rattle.keeps.proofs.Stores.{any}
 use Rattle.clauses.proofs.Updates.{upd, at}

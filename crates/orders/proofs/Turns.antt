@@ -9,8 +9,8 @@ use native.Mathlib.Omega.{arith}
 use lib.ListN.{getD}
 use lib.Dec.{eqb, ltb}
 use borrow.Author.Tests.{eqb-false, not-true, lt-ltb}
-use Rattle.orders.proofs.Words.{Cell, Place, Task, Link, Machine}
-use Rattle.orders.proofs.Words.{Ask, AskLlx, AskScx, AskVlx, AskRead, AskStep, Call, Check, Passed, Failed}
+use Rattle.rules.specs.Words.{Cell, Place, Task, Link, Machine}
+use Rattle.rules.specs.Words.{Ask, AskLlx, AskScx, AskVlx, AskRead, AskStep, Call, Check, Passed, Failed}
 use Rattle.table.specs.Table.{pick, cellAt, changeAt, taskAt, linkAt}
 use Rattle.table.proofs.Tabulate.{getD-tabulate}
 use Rattle.rules.specs.Access.{changeOf, recordOf}

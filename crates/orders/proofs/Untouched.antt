@@ -2,7 +2,7 @@
 use Prim.Native.Nat.{ℕ, suc, _<_}
 use mathlib.Core.Path.{_≡_, sym, ap, _∙_, subst}
 use mathlib.Core.Bool.{true}
-use Rattle.orders.proofs.Words.{Machine, Link, L6, Call}
+use Rattle.rules.specs.Words.{Machine, Link, L6, Call}
 use Rattle.table.specs.Table.{taskAt, linkAt}
 use Rattle.rules.specs.Shape.{allLinked}
 use Rattle.rules.specs.Refuse.{linkedAt}

@@ -6,7 +6,7 @@ use mathlib.Core.Bool.{Bool, true, false}
 use mathlib.Core.Logic.{inr, _≢_, ⊎-elim}
 use mathlib.Core.List.{List}
 use native.Mathlib.Omega.{arith}
-use Rattle.orders.proofs.Words.{Cell, Record, After, Machine, Place, H1, Task, Call}
+use Rattle.rules.specs.Words.{Cell, Record, After, Machine, Place, H1, Task, Call}
 use Rattle.table.specs.Table.{taskAt}
 use Rattle.rules.specs.Access.{changeOf}
 use Rattle.rules.specs.Next.{next}

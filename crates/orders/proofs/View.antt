@@ -4,7 +4,7 @@ use Prim.Native.Nat.{ℕ, _+_}
 use mathlib.Core.Bool.{false}
 use mathlib.Core.List.{List}
 use lib.Dec.{ltb}
-use Rattle.orders.proofs.Words.{Record, Task, Link, Machine, Ask, AskLlx, AskScx, AskVlx, AskRead, AskStep, Call, Check, Passed, Failed}
+use Rattle.rules.specs.Words.{Record, Task, Link, Machine, Ask, AskLlx, AskScx, AskVlx, AskRead, AskStep, Call, Check, Passed, Failed}
 use Rattle.table.specs.Table.{pick, noRecord, noTask, noLink, cellAt, recordAt, changeAt, taskAt, linkAt, stateOf}
 use Rattle.rules.specs.Access.{recordOf}
 use Rattle.rules.specs.Step.{accessAt, moveAt}

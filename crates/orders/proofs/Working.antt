@@ -6,7 +6,7 @@ use mathlib.Core.Logic.{_⊎_, inl, inr, _≢_, ⊎-elim}
 use mathlib.Core.List.{List}
 use native.Mathlib.Omega.{arith}
 use native.Mathlib.Nat.{le-refl}
-use Rattle.orders.proofs.Words.{Cell, After, Own, Machine, Place, AskStep, Accepted, Task, Call, Seen, Out}
+use Rattle.rules.specs.Words.{Cell, After, Own, Machine, Place, AskStep, Accepted, Task, Call, Seen, Out}
 use Rattle.table.specs.Table.{changeAt, taskAt, linkAt}
 use Rattle.rules.specs.Access.{changeOf, recordOf}
 use Rattle.rules.specs.Perform.{seen}

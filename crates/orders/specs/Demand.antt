@@ -7,19 +7,8 @@ use mathlib.Core.Logic.{_⊎_, _≢_}
 use mathlib.Core.Bool.{Bool, true, false}
 use mathlib.Core.List.{List}
 use lib.ListN.{getD}
-use Rattle.table.specs.declared.Cell.{Cell}
-use Rattle.table.specs.declared.After.{After}
-use Rattle.table.specs.declared.After.the-variants.{Own, AtL8, AtL11}
-use Rattle.table.specs.declared.Place.{Place}
-use Rattle.table.specs.declared.Place.the-variants.{Idle, L6, L9, H1, H2, H3, H4, H5, H6, H7, H8}
-use Rattle.table.specs.declared.Link.{Link}
-use Rattle.table.specs.declared.Machine.{Machine}
-use Rattle.table.specs.declared.Ask.the-variants.{Scx as AskScx, Step as AskStep}
-use Rattle.table.specs.declared.Call.{Call}
-use Rattle.table.specs.declared.Refusal.{Refusal}
-use Rattle.table.specs.declared.Answer.{Answer}
-use Rattle.table.specs.declared.Answer.the-variants.{Accepted, Snapshot, Finalized, Fail, Yes, No, Refused}
-use Rattle.table.specs.declared.Out.{Out}
+use Rattle.rules.specs.Words.{Cell, After, Own, AtL8, AtL11, Place, Idle, L6, L9, H1, H2, H3, H4, H5, H6, H7, H8, Machine, Out}
+use Rattle.rules.specs.Words.{Call, AskScx, AskStep, Refusal, Answer, Accepted, Snapshot, Finalized, Fail, Yes, No, Refused}
 use Rattle.table.specs.Table.{cellAt, recordAt, changeAt, taskAt, linkAt}
 use Rattle.rules.specs.Start.{places}
 
