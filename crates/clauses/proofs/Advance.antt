@@ -1,6 +1,6 @@
 -- Every step of a task, from a place whose facts hold, keeps to its guard and leads to a place whose facts hold.
 use Prim.Native.Nat.{ℕ, _<_}
-use mathlib.Core.Path.{_≡_, refl, sym, ap, subst}
+use mathlib.Core.Path.{_≡_, refl, sym, ap, _∙_, subst}
 use mathlib.Core.Bool.{true, false}
 use mathlib.Core.Logic.{inl, _≢_}
 use mathlib.Core.List.{List}
@@ -36,8 +36,8 @@ advance X G F t (L5 r m1 a f) cs s ch l linked e four inR saw live h = from-L5 X
 advance X G F t (L6 r m1 a) cs s ch l linked e four inR saw live h = from-L6 X G F t r cs _ m1 a (s .number) saw live h
 advance X G F t (L7 r m1 a) cs s ch l linked e four inR saw live h = from-L7 X G F t r cs _ _ m1 a (s .state) live
 advance X G F t (L8 r m1 a) cs s ch l linked e four inR saw live h = from-L8 X G F t r cs _ _ m1 a (s .state) saw live
-advance X G F t (L9 r) cs s ch l linked e four inR saw live h = reads X G F t _ cs _ _ _ _ (λ z. (z, inl (r, sym saw))) tt
-advance X G F t (L10 r b) cs s ch l linked e four inR saw live h = from-L10 X G F t r cs _ _ (s .state)
+advance X G F t (L9 r) cs s ch l linked e four inR saw live h = reads X G F t _ cs _ _ _ _ (λ z. (z, inl (r, sym saw))) (λ z q. z (saw ∙ q))
+advance X G F t (L10 r b) cs s ch l linked e four inR saw live h = from-L10 X G F t r cs _ _ b (s .state) saw h
 advance X G F t (L11 r) cs s ch l linked e four inR saw live h = from-L11 X G F t r cs _ _ (s .number) saw
 advance X G F t (H1 u i w) cs s ch l linked e four inR saw live h =
     rw saw (from-H1 X G F t _ cs _ _ u w live i (ch .n) (ap (λ (x : Terms). x .n) e) (is-stored (X .sh) u i) refl h)

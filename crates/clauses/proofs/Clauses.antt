@@ -83,8 +83,8 @@ At S G cs (L6 r m1 a) = Final S r a × Snap S r a 4 cs
 At S G cs (L7 r m1 a) = Unit {0}
 At S G cs (L8 r m1 a) = Unit {0}
 At S G cs (L9 r) = Unit {0}
-At S G cs (L10 r b) = Unit {0}
-At S G cs (L11 r) = Unit {0}
+At S G cs (L10 r b) = b ≢ 0 → S .info r ≢ 0
+At S G cs (L11 r) = S .info r ≢ 0
 At S G cs (H1 u i after) = (u ≢ 0) × (i < S .terms u .n) × HeldTo (G .held u) i
 At S G cs (H2 u i after) = (u ≢ 0) × (i < S .terms u .n) × HeldTo (G .held u) i × (S .info (S .terms u .rec i) ≢ S .terms u .infos i)
 At S G cs (H3 u after) = (u ≢ 0) × ((S .state u ≡ Committed) ⊎ LostOf S G u)
@@ -160,6 +160,7 @@ pub record Made (S : Shared) (G : Ghost) (t u : ℕ) (c : Terms) : Type 0 where
 abbrev pub Guard : Shared → Ghost → ℕ → Act → Type 0
 Guard S G t nop = Unit {0}
 Guard S G t (hold u i) = record {
+  nonzero : u ≢ 0;
   ok : OkOf S G u;
   inside : i < S .terms u .n;
   prior : HeldTo (G .held u) i;

@@ -117,6 +117,18 @@ module _ (S : Shared) (G : Ghost) (t : ℕ) (k : Reading) where
   no-return (commit x) g r a h e = e
   no-return (make x c) g r a h e = e
 
+  -- an info that is some change's is never the dummy's again
+  pub stay-held-by : (b : Act) → Guard S G t b → (r : ℕ) → S .info r ≢ 0 → apply b S .info r ≢ 0
+  unfolding apply
+  stay-held-by nop g r h = h
+  stay-held-by (hold x i) g r h = at (λ z. z ≢ 0) (S .info) _ _ r (λ e. g .nonzero) (λ n. h)
+  stay-held-by (abort x) g r h = h
+  stay-held-by (freeze x) g r h = h
+  stay-held-by (close x i) g r h = h
+  stay-held-by (write x) g r h = h
+  stay-held-by (commit x) g r h = h
+  stay-held-by (make x c) g r h = h
+
   -- while the info is one kept for a comparison, the cells stay and nobody takes effect on the record
   pub stay-cell : (b : Act) → Guard S G t b → (r a f : ℕ) → S .state a ≢ InProgress → S .info r ≡ a → apply b S .cell r f ≡ S .cell r f
   unfolding apply

@@ -99,7 +99,7 @@ module _ (X : Table) (G : Ghost) (F : Fine X G) (t r : ℕ) (cs : List Cell) (c 
     pub from-H1 : (i n : ℕ) → n ≡ S .terms u .n → (b : Bool) → is-stored S u i ≡ b → At S G cs (H1 u i w)
         → Leads X G F t r cs c new (pick b (hold u i) nop) (on (afterH1 u i n w b))
     from-H1 i n few true e h = acts X G F t r cs c new (hold u i) _ _
-        (record { ok = F .CHANGES u (l (h .0)); inside = h .1; prior = h .2; at = eqb-true _ _ e }) (l (h .0))
+        (record { nonzero = h .0; ok = F .CHANGES u (l (h .0)); inside = h .1; prior = h .2; at = eqb-true _ _ e }) (l (h .0))
         (λ z. subst (λ y. Live X y) (sym (held-names u i n w)) (l (h .0)))
         (at-held (apply (hold u i) S) (note t (hold u i) k S G) _ u w i n (rw (same-terms S G t k (hold u i) u tt) few) (h .0) now-held)
       where

@@ -16,7 +16,7 @@ use Rattle.clauses.proofs.Memory.{Act, nop, hold, abort, freeze, close,
 use Rattle.clauses.proofs.History.{Ghost, Reading, note}
 use Rattle.clauses.proofs.Clauses.{HeldTo, MarkedTo, OkOf, Off, Guard, At, LinkOk}
 use Rattle.clauses.proofs.Events.{CI, write-holds}
-use Rattle.clauses.proofs.Frame.{same-terms, stay-mark, stay-frozen, stay-hap, stay-held, stay-state, stay-ended, stay-final}
+use Rattle.clauses.proofs.Frame.{stay-held-by, same-terms, stay-mark, stay-frozen, stay-hap, stay-held, stay-state, stay-ended, stay-final}
 use Rattle.clauses.proofs.Frame.{stay-anchor, stay-snap, took-now, now-suc}
 use Rattle.clauses.proofs.Lost.{stay-gone, stay-lost}
 
@@ -51,8 +51,8 @@ module _ (S : Shared) (G : Ghost) (t : ℕ) (k : Reading) (b : Act) (g : Guard S
   stay cs (L7 r m1 a) o K h = tt
   stay cs (L8 r m1 a) o K h = tt
   stay cs (L9 r) o K h = tt
-  stay cs (L10 r a) o K h = tt
-  stay cs (L11 r) o K h = tt
+  stay cs (L10 r a) o K h = λ z. stay-held-by S G t k b g r (h z)
+  stay cs (L11 r) o K h = stay-held-by S G t k b g r h
   stay cs (H1 u i after) o K h = rw (same-terms S G t k b u o) (h .0, h .1, held u i o (h .2))
   stay cs (H2 u i after) o K h =
       rw (same-terms S G t k b u o) (h .0, h .1, held u i o (h .2), stay-gone S G t k b g u (K (h .0)) i (h .1) (h .3))

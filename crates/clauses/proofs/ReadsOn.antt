@@ -11,7 +11,7 @@ use lib.Seq.{getD-set-same, getD-set-other}
 use lib.Dec.{eqb, ltb}
 use borrow.Author.Tests.{eqb-true, eqb-false, ltb-true, ltb-false}
 use Rattle.rules.specs.Words.{Cell, State, InProgress, Committed, Aborted, Link, After, AtL8, AtL11, Fail, Yes}
-use Rattle.rules.specs.Words.{L4, L5, L6, L7, H1, Vlx}
+use Rattle.rules.specs.Words.{L4, L5, L6, L7, L10, H1, Vlx}
 use Rattle.table.specs.Table.{pick, noCell, cellAt}
 use Rattle.rules.specs.Resume.{on, onWith, done, snapshot, noAndDrop}
 use Rattle.rules.specs.Resume.{afterL4, afterL5, afterL6, afterL7, afterL8, afterL10, afterL11, afterVlx}
@@ -76,10 +76,11 @@ module _ (X : Table) (G : Ghost) (F : Fine X G) (t r : ℕ) (cs : List Cell) (c 
   from-L8 m1 a Committed e l = reads X G F t 0 cs c new _ _ by-none tt
   from-L8 m1 a Aborted e l = reads X G F t 0 cs c new _ _ by-none tt
 
-  pub from-L10 : (s : State) → Leads X G F t 0 cs c new nop (afterL10 r s)
-  from-L10 InProgress = reads X G F t 0 cs c new _ _ by-none tt
-  from-L10 Committed = reads X G F t 0 cs c new _ _ by-none tt
-  from-L10 Aborted = reads X G F t 0 cs c new _ _ by-none tt
+  -- L10: b is InProgress, so it is no dummy, and the info is none from then on
+  pub from-L10 : (b : ℕ) (s : State) → s ≡ S .state b → At S G cs (L10 r b) → Leads X G F t 0 cs c new nop (afterL10 r s)
+  from-L10 b InProgress e h = reads X G F t 0 cs c new _ _ by-none (h (not-zero b (λ q. AI q (sym e))))
+  from-L10 b Committed e h = reads X G F t 0 cs c new _ _ by-none tt
+  from-L10 b Aborted e h = reads X G F t 0 cs c new _ _ by-none tt
 
   pub from-L11 : (a : ℕ) → a ≡ S .info r → Leads X G F t r cs c new nop (afterL11 a)
   from-L11 a e = go (eqb a 0) refl

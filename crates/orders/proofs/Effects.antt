@@ -48,6 +48,9 @@ module _ (m : Machine) (calls : ℕ → Call) (R : Run m calls) where
   pub written-inside : (c : Ch) → c .written < c .n
   written-inside c = obeyed (M (c .start)) (calls (c .start)) _ (passes m calls R c) .1 .1 .1 .1 .1 .0 .0
 
+  pub field-inside : (c : Ch) → c .field < 4
+  field-inside c = obeyed (M (c .start)) (calls (c .start)) _ (passes m calls R c) .1 .1 .1 .1 .1 .0 .1 .1
+
   pub spot-inside : (c : Ch) → spot next m calls c < m .n
   spot-inside c = inside c (c .written) (written-inside c)
 

@@ -69,7 +69,7 @@ module _ (p n : ℕ) (values : List ℕ) (ok : inRange p n (length values) ≡ t
   unfolding inShape InShape
   fresh-shaped = told (from .used) (shape from) (fresh-in-shape p n values ok)
 
-  unused : from .used ≡ 0
+  pub unused : from .used ≡ 0
   unfolding freshMachine
   unused = ap (λ (m : Machine). m .used) fresh-is
 

@@ -20,3 +20,4 @@ pub mod Verdicts
 pub mod Working
 pub mod Every
 pub mod Given
+pub mod Stamps
