@@ -1,0 +1,163 @@
+-- The events of a run that is written down, each from tests that the prover computes.
+use Prim.Native.Nat.{ℕ, suc}
+use native.Mathlib.Omega.{arith}
+use mathlib.Core.Path.{_≡_, refl, sym, ap, subst}
+use mathlib.Core.Bool.{Bool, true, false}
+use mathlib.Core.List.{List, []}
+use lib.Dec.{eqb, ltb}
+use borrow.Author.Tests.{ltb-true, eqb-false, eq-eqb}
+use Rattle.rules.specs.Words.{After, Own, L6, H1, H7, Machine, Call, Accepted, Snapshot, Out}
+use Rattle.table.specs.Table.{noChange, cellAt, recordAt, changeAt, taskAt, linkAt, sameCell}
+use Rattle.rules.specs.Claim.{both}
+use Rattle.rules.proofs.Exact.{both-is, both-on}
+use Rattle.rules.specs.Access.{changeOf, accessOf, recordOf}
+use Rattle.rules.specs.Refuse.{isIdle}
+use Rattle.rules.specs.Next.{scx, stepping}
+use Rattle.orders.specs.Demand.{Brings, before, said, place, cell, info, Steps, Change, named, spot}
+use Rattle.orders.specs.Demand.{During, Effect, Holds, Snap, Read, Verdict, Going}
+use Rattle.forged.specs.Places.{isScx}
+use Rattle.forged.proofs.Through.{throughout, throughout-is, silent, silent-is}
+use Rattle.forged.proofs.Tests.{isRefused, isSnapshot, not-refused, not-same, sameLink, same-link}
+
+-- THE TESTS, of a call and the table before it
+module _ (next : Machine → Call → Out) (m : Machine) (calls : ℕ → Call) where
+  -- call k starts an SCX, and its task then stands at the change u
+  abbrev pub takes : ℕ → ℕ → Machine → Bool
+  takes u k x = both (isScx (calls k .ask)) (eqb (changeOf (taskAt (next x (calls k) .m) (calls k .task) .place)) u)
+
+  -- c has started before k, and no start between them takes its number
+  abbrev pub within : Change next m calls → ℕ → Bool
+  within c k = both (ltb (c .start) k) (silent next m calls (takes (c .number)) (c .start) k)
+
+  -- the cell that c names is after call k what it was before
+  abbrev pub kept : Change next m calls → ℕ → Machine → Bool
+  kept c k x =
+      let r = spot next m calls c in
+      sameCell (cellAt (recordAt (next x (calls k) .m) r .cells) (c .field)) (cellAt (recordAt x r .cells) (c .field))
+
+  -- call k is t's and ends with a snapshot of r
+  abbrev pub snaps : ℕ → ℕ → ℕ → Machine → Bool
+  snaps t r k x =
+      both (both (eqb (calls k .task) t) (isSnapshot (next x (calls k) .answer)))
+      (eqb (recordOf (accessOf (taskAt x t .place) noChange [])) r)
+
+  -- t's link to r is as in the table y
+  abbrev pub stays : ℕ → ℕ → Machine → ℕ → Machine → Bool
+  stays t r y k x = sameLink (linkAt x t r) (linkAt y t r)
+
+  abbrev pub rests : ℕ → ℕ → Machine → Bool
+  rests t k x = isIdle (taskAt x t .place)
+
+  -- call k is a STEP of t that is not refused
+  abbrev pub going : ℕ → ℕ → Type 0
+  going k t = (calls k ≡ stepping t) × (isRefused (said next m calls k) ≡ false)
+
+  pub steps : (k t : ℕ) → going k t → Steps next m calls k t
+  steps k t g =
+      record { step = ap (λ x. x .ask) (g .0); by = ap (λ x. x .task) (g .0); accepted = not-refused (said next m calls k) (g .1) }
+
+  abbrev pub begun : (start task n : ℕ) (list : List ℕ) (r written field new number : ℕ)
+      → calls start ≡ scx task n list r written field new
+      → said next m calls start ≡ Accepted → place next m calls (suc start) task ≡ H1 number 0 Own → Change next m calls
+  begun start task n list r written field new number e a q =
+      record {
+        start = start;
+        task = task;
+        n = n;
+        list = list;
+        r = r;
+        written = written;
+        field = field;
+        new = new;
+        number = number;
+        asks = e;
+        accepted = a;
+        takes = q;
+      }
+
+-- THE EVENTS
+module _ {next : Machine → Call → Out} {m : Machine} {calls : ℕ → Call} where
+  takes-is : (d : Change next m calls) → takes next m calls (d .number) (d .start) (before next m calls (d .start)) ≡ true
+  unfolding before
+  takes-is d =
+      let k = d .start in
+      let q = place next m calls (suc k) (calls k .task) in
+      let at-u = subst (λ t. place next m calls (suc k) t ≡ H1 (d .number) 0 Own) (sym (ap (λ x. x .task) (d .asks))) (d .takes) in
+      both-on (isScx (calls k .ask)) (eqb (changeOf q) (d .number)) (ap (λ x. isScx (x .ask)) (d .asks))
+      (eq-eqb (changeOf q) (d .number) (ap changeOf at-u))
+
+  pub during : (c : Change next m calls) (k : ℕ) → within next m calls c k ≡ true → During next m calls c k
+  during c k h =
+      let p = both-is (ltb (c .start) k) (silent next m calls (takes next m calls (c .number)) (c .start) k) h in
+      record {
+        later = ltb-true (c .start) k (p .0);
+        alone = λ d l1 l2 e.
+            silent-is next m calls (takes next m calls (c .number)) (c .start) k (p .1) (d .start) l1 l2
+            (subst (λ u. takes next m calls u (d .start) (before next m calls (d .start)) ≡ true) e (takes-is d));
+      }
+
+  pub effect : (c : Change next m calls) (k t : ℕ) (after : After) → within next m calls c k ≡ true → going next m calls k t
+      → place next m calls k t ≡ H7 (c .number) after → kept next m calls c k (before next m calls k) ≡ false
+      → Effect next m calls c k
+  unfolding before
+  effect c k t after w s q h =
+      let r = spot next m calls c in
+      record {
+        during = during c k w;
+        by = t;
+        after = after;
+        steps = steps next m calls k t s;
+        at-h7 = q;
+        alters = not-same (cell next m calls (suc k) r (c .field)) (cell next m calls k r (c .field)) h;
+      }
+
+  pub hold : (c : Change next m calls) (k r t i : ℕ) (after : After) → within next m calls c k ≡ true → going next m calls k t
+      → place next m calls k t ≡ H1 (c .number) i after → ltb i (c .n) ≡ true → named next m calls c i ≡ r
+      → info next m calls (suc k) r ≡ c .number → eqb (info next m calls k r) (c .number) ≡ false → Holds next m calls c k r
+  hold c k r t i after w s q l e took was =
+      record {
+        during = during c k w;
+        by = t;
+        after = after;
+        i = i;
+        steps = steps next m calls k t s;
+        at-h1 = q;
+        names = (ltb-true i (c .n) l, e);
+        takes = took;
+        alters = eqb-false (info next m calls k r) (c .number) was;
+      }
+
+  pub verdict : (c : Change next m calls) (k t : ℕ) (after : After) (b : Bool) → within next m calls c k ≡ true
+      → going next m calls k t
+      → Brings (c .number) after (changeAt (before next m calls k) (c .number) .frozen) (place next m calls k t) b
+      → Verdict next m calls c k b
+  verdict c k t after b w s h = record { during = during c k w; by = t; after = after; steps = steps next m calls k t s; brings = h }
+
+  pub snaps-is : (t r j : ℕ) → Snap next m calls j t r → snaps next m calls t r j (before next m calls j) ≡ true
+  unfolding both
+  snaps-is t r j s = rw (s .answer, s .at-l6, eq-eqb (calls j .task) t (s .steps .by)) (eq-eqb r r refl)
+
+  pub linked : (c : Change next m calls) (r e : ℕ) (m1 : Bool) (a : ℕ) → ltb e (c .start) ≡ true → going next m calls e (c .task)
+      → place next m calls e (c .task) ≡ L6 r m1 a
+      → said next m calls e ≡ Snapshot
+      → silent next m calls (snaps next m calls (c .task) r) e (c .start) ≡ true
+      → throughout next m calls (stays next m calls (c .task) r (before next m calls (suc e))) e (suc (c .start)) ≡ true
+      → Read next m calls c r e
+  linked c r e m1 a l s q x only stands =
+      let y = before next m calls (suc e) in
+      record {
+        before-start = ltb-true e (c .start) l;
+        ends = record { m1 = m1; a = a; steps = steps next m calls e (c .task) s; at-l6 = q; answer = x };
+        last = λ j l1 l2 h. silent-is next m calls (snaps next m calls (c .task) r) e (c .start) only j l1 l2 (snaps-is (c .task) r j h);
+        stands = λ j l1 l2.
+            same-link (linkAt (before next m calls j) (c .task) r) (linkAt y (c .task) r)
+            (throughout-is next m calls (stays next m calls (c .task) r y) e (suc (c .start)) stands j l1 (omega arith));
+      }
+
+  pub busy : (c : Change next m calls) (k : ℕ) → ltb (c .start) k ≡ true
+      → silent next m calls (rests next m calls (c .task)) (c .start) (suc k) ≡ true → Going next m calls (c .start) (c .task) k
+  busy c k l h =
+      record {
+        later = ltb-true (c .start) k l;
+        busy = λ j l1 l2 e. silent-is next m calls (rests next m calls (c .task)) (c .start) (suc k) h j l1 (omega arith) (ap isIdle e);
+      }

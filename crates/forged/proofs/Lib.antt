@@ -1,0 +1,12 @@
+pub mod Same
+pub mod Tests
+pub mod Through
+pub mod Events
+pub mod Script
+pub mod Without
+pub mod Speaks
+pub mod Verdicts
+pub mod Mistakes
+pub mod Shams
+pub mod Others
+pub mod Beyond

@@ -1,0 +1,124 @@
+-- What is no event of a run that is written down, from tests that the prover computes.
+use Prim.Native.Nat.{ℕ, suc, _<_, _≤_}
+use native.Mathlib.Omega.{arith}
+use mathlib.Core.Path.{_≡_, refl, sym, ap, subst, _∙_}
+use mathlib.Core.Logic.{_≢_}
+use mathlib.Core.Bool.{Bool, true, false, not, true≢false, false≢true}
+use lib.Dec.{eqb, leb}
+use borrow.Author.Tests.{eqb-true, eq-eqb, ne-eqb, leb-true, leb-false}
+use Rattle.rules.specs.Words.{Cell, After, Place, H7, Machine, Call, Out}
+use Rattle.table.specs.Table.{pick, recordAt, taskAt, sameCell}
+use Rattle.rules.specs.Claim.{both, allBelow}
+use Rattle.rules.proofs.Exact.{both-on, all-is}
+use Rattle.rules.specs.Access.{changeOf}
+use Rattle.rules.specs.Refuse.{isIdle}
+use Rattle.orders.specs.Demand.{Brings, at-h3, at-h4, at-h8, Works, h1, h2, h3, h4, h5, h6, h7, h8}
+use Rattle.orders.specs.Demand.{before, place, cell, info, Change, named, spot, Effect, Holds, Read, Verdict}
+use Rattle.forged.specs.Places.{isH, isScx}
+use Rattle.forged.proofs.Tests.{same-cell, picked}
+use Rattle.forged.proofs.Through.{scan, scan-is, silent, silent-is}
+use Rattle.forged.proofs.Events.{kept, snaps, snaps-is}
+
+not-kept : (a b : Cell) → a ≢ b → not (sameCell a b) ≡ true
+not-kept a b n = go (sameCell a b) refl
+  where
+    go : (x : Bool) → sameCell a b ≡ x → not x ≡ true
+    go true e = absurd (n (same-cell a b e))
+    go false e = refl
+
+module _ (next : Machine → Call → Out) (m : Machine) (calls : ℕ → Call) where
+  -- where the task of call k stands
+  abbrev pub there : ℕ → Place
+  there k = place next m calls k (calls k .task)
+
+  -- call k comes from a place of c, and the cell that c names alters
+  abbrev pub writes : Change next m calls → ℕ → Machine → Bool
+  writes c k x = both (eqb (changeOf (taskAt x (calls k .task) .place)) (c .number)) (not (kept next m calls c k x))
+
+  -- the info of r alters in call k
+  abbrev pub moves : ℕ → ℕ → Machine → Bool
+  moves r k x = not (eqb (recordAt (next x (calls k) .m) r .info) (recordAt x r .info))
+
+  -- if call e ends a linked read of c, the info of the record read does not alter from then to k
+  abbrev pub unmoved : Change next m calls → ℕ → ℕ → ℕ → Machine → Bool
+  unmoved c k r e x = pick (snaps next m calls (c .task) r e x) (silent next m calls (moves r) e k) true
+
+  -- call j starts no SCX, or it is call k
+  abbrev pub only : ℕ → ℕ → Bool
+  only k j = pick (isScx (calls j .ask)) (eqb j k) true
+
+-- what a step tells of who made it: an effect comes from H7; the verdict of an H4 is no
+idle-works-not : {u : ℕ} {after : After} {q : Place} → Works u after q → isIdle q ≡ false
+idle-works-not h1 = refl
+idle-works-not h2 = refl
+idle-works-not h3 = refl
+idle-works-not h4 = refl
+idle-works-not h5 = refl
+idle-works-not h6 = refl
+idle-works-not h7 = refl
+idle-works-not h8 = refl
+
+pub idle-works : {u : ℕ} {after : After} {q : Place} → Works u after q → isIdle q ≡ true → ⊥
+idle-works w e = true≢false (sym e ∙ idle-works-not w)
+
+brings-no : {u : ℕ} {after : After} {frozen b : Bool} {q : Place} → Brings u after frozen q b → isH 4 q ≡ true → b ≡ false
+brings-no (at-h3 f) e = absurd (false≢true e)
+brings-no at-h4 e = refl
+brings-no at-h8 e = absurd (false≢true e)
+
+module _ {next : Machine → Call → Out} {m : Machine} {calls : ℕ → Call} where
+  -- an effect of c at k comes from its H7
+  pub effect-at : (c : Change next m calls) (k : ℕ) (E : Effect next m calls c k) → there next m calls k ≡ H7 (c .number) (E .after)
+  effect-at c k E = subst (λ t. place next m calls k t ≡ H7 (c .number) (E .after)) (sym (E .steps .by)) (E .at-h7)
+
+  pub no-effect : (c : Change next m calls) (k : ℕ) → silent next m calls (writes next m calls c) (c .start) k ≡ true
+      → (j : ℕ) → j < k → Effect next m calls c j → ⊥
+  unfolding before
+  no-effect c k h j l E =
+      let r = spot next m calls c in
+      let x = before next m calls j in
+      silent-is next m calls (writes next m calls c) (c .start) k h j (E .during .later) l
+      (both-on (eqb (changeOf (there next m calls j)) (c .number)) (not (kept next m calls c j x))
+      (eq-eqb (changeOf (there next m calls j)) (c .number) (ap changeOf (effect-at c j E)))
+      (not-kept (cell next m calls (suc j) r (c .field)) (cell next m calls j r (c .field)) (E .alters)))
+
+  pub verdict-no : (c : Change next m calls) (k : ℕ) (b : Bool) → Verdict next m calls c k b
+      → isH 4 (there next m calls k) ≡ true → b ≡ false
+  verdict-no c k b v e = brings-no (v .brings) (subst (λ t. isH 4 (place next m calls k t) ≡ true) (v .steps .by) e)
+
+  -- nobody takes hold of a record that c names between the linked read of it and k
+  abbrev pub settled : Change next m calls → ℕ → ℕ → Bool
+  settled c k i = scan next m calls (unmoved next m calls c k (named next m calls c i)) 0 (c .start) m
+
+  pub no-hold : (c : Change next m calls) (k : ℕ) → allBelow (c .n) (settled c k) ≡ true
+      → (d : Change next m calls) (i e h : ℕ) → i < c .n → Read next m calls c (named next m calls c i) e → e < h → h < k
+      → Holds next m calls d h (named next m calls c i) → ⊥
+  unfolding before
+  no-hold c k u d i e h l R l1 l2 H =
+      let r = named next m calls c i in
+      let quiet =
+      scan-is next m calls (unmoved next m calls c k r) 0 (c .start) (all-is (c .n) (settled c k) u i l) e (omega arith)
+      (omega (arith, R .before-start)) in
+      silent-is next m calls (moves next m calls r) e k
+      (picked (snaps next m calls (c .task) r e (before next m calls e)) (silent next m calls (moves next m calls r) e k)
+      (snaps-is (c .task) r e (R .ends)) quiet)
+      h l1 l2
+      (ap not (ne-eqb (info next m calls (suc h) r) (info next m calls h r) (λ same. H .alters (sym same ∙ H .takes))))
+
+  pub only-start : (k n : ℕ) → allBelow n (only next m calls k) ≡ true → (d : Change next m calls) → d .start < n → d .start ≡ k
+  only-start k n h d l =
+      eqb-true (d .start) k
+      (picked (isScx (calls (d .start) .ask)) (eqb (d .start) k) (ap (λ x. isScx (x .ask)) (d .asks))
+      (all-is n (only next m calls k) h (d .start) l))
+
+  -- a linked read for c ended no later than k, if none ends between k and the start
+  pub read-by : (c : Change next m calls) (r e k : ℕ) → Read next m calls c r e
+      → silent next m calls (snaps next m calls (c .task) r) k (c .start) ≡ true → e ≤ k
+  read-by c r e k R h = go (leb e k) refl
+    where
+      go : (b : Bool) → leb e k ≡ b → e ≤ k
+      go true t = leb-true e k t
+      go false t =
+          absurd
+          (silent-is next m calls (snaps next m calls (c .task) r) k (c .start) h e (leb-false e k t) (R .before-start)
+          (snaps-is (c .task) r e (R .ends)))

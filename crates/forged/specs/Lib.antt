@@ -1,0 +1,3 @@
+pub mod Patched
+pub mod Places
+pub mod Broken

@@ -1,0 +1,1 @@
+// No code: runs in which each sentence of demand 3 speaks of something, and broken machines that fail it.
