@@ -72,15 +72,15 @@ module _ (C : Course) where
   marked u i r j p = subst (λ x. S C j .mark x ≡ true) (p .rec)
       (fine C j .CHANGES u (live u i r j p) .HAPPENED (p .hap) .1 i (p .inside) (p .closes))
 
-  abbrev pub Unaltered : ℕ → ℕ → Type 0
-  Unaltered j r =
-      ((f : ℕ) → S C (suc j) .cell r f ≡ S C j .cell r f) × (S C (suc j) .mark r ≡ S C j .mark r) × (S C (suc j) .info r ≡ S C j .info r)
+  -- its cells stand still, it is marked, and u holds it
+  abbrev pub Stays : ℕ → ℕ → ℕ → Type 0
+  Stays u j r = ((f : ℕ) → S C (suc j) .cell r f ≡ S C j .cell r f) × (S C j .mark r ≡ true) × (S C j .info r ≡ u)
 
-  shut-still : (u i r j : ℕ) → Shut u i r j → Unaltered j r
-  shut-still u i r j p = let q = shut-step u i r j p in (
+  shut-still : (u i r j : ℕ) → Shut u i r j → Stays u j r
+  shut-still u i r j p = (
     λ f. ⊎-elim (λ e. e) (λ (A : Wrote (S C j) (C .act j) r f). absurd (clash f A)) (alters-by C j r f),
-    marked u i r (suc j) q ∙ sym (marked u i r j p),
-    q .info ∙ sym (p .info),
+    marked u i r j p,
+    p .info,
   )
     where
       clash : (f : ℕ) → Wrote (S C j) (C .act j) r f → ⊥
@@ -90,7 +90,7 @@ module _ (C : Course) where
 
   -- FROM ITS EFFECT ON
   pub closed : (s u : ℕ) (c : Terms) → C .act s ≡ make u c → (k : ℕ) → s < k → Unstarted C u (suc s) k → Writes C k u
-      → (i : ℕ) → i < c .n → c .closes i ≡ true → (j : ℕ) → k < j → Unaltered j (c .rec i)
+      → (i : ℕ) → i < c .n → c .closes i ≡ true → (j : ℕ) → k < j → Stays u j (c .rec i)
   unfolding history apply note
   closed s u c made k later alone E i h q j l = shut-still u i (c .rec i) j (shut u i (c .rec i) (suc k) j l now)
     where

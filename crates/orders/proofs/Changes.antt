@@ -1,15 +1,16 @@
 -- A change of the statement is a number that a call of the course takes, with the terms that the start wrote down.
 use Prim.Native.Nat.{ℕ, suc, _+_, _<_}
 use mathlib.Core.Path.{_≡_, refl, sym, ap, _∙_, subst}
-use mathlib.Core.Logic.{_≢_}
-use Rattle.rules.specs.Words.{Machine, Own, H1, AskScx, Call, Out}
+use mathlib.Core.Logic.{_⊎_, inl, inr, _≢_}
+use Rattle.rules.specs.Words.{Machine, Own, H1, AskScx, Call, Check, Passed, Failed, Refusal, Refused, Out}
 use Rattle.table.specs.Table.{taskAt}
 use Rattle.rules.specs.Start.{filled}
-use Rattle.rules.specs.Next.{started, next}
+use Rattle.rules.specs.Refuse.{check, rulesOf}
+use Rattle.rules.specs.Next.{refused, started, answered, next}
 use Rattle.clauses.proofs.Memory.{Terms, make}
 use Rattle.clauses.proofs.Steps.{termsOf}
 use Rattle.clauses.proofs.Course.{Course, Starts, Unstarted}
-use Rattle.orders.specs.Demand.{before, Change, During}
+use Rattle.orders.specs.Demand.{before, said, Change, During}
 use Rattle.orders.proofs.Calls.{Passes, accepts, next-is, did-is, Scx, took}
 use Rattle.orders.proofs.Run.{Run, course}
 
@@ -29,13 +30,13 @@ module _ (m : Machine) (calls : ℕ → Call) (R : Run m calls) where
   pub by-list : (c : Ch) → calls (c .start) .list ≡ c .list
   by-list c = ap (λ (e : Call). e .list) (c .asks)
 
-  pub passes : (c : Ch) → Passes (M (c .start)) (calls (c .start)) (AskScx (c .n) (c .r) (c .written) (c .field) (c .new))
+  pub passes : (c : Ch) → Passes (M (c .start)) (calls (c .start)) (AskScx (c .n) (c .closing) (c .written) (c .field) (c .new))
   passes c = record { passed = accepts (M (c .start)) (calls (c .start)) (c .accepted); asks = ap (λ (e : Call). e .ask) (c .asks) }
 
   -- it takes the next number, and writes down what it asks for
   pub number-is : (c : Ch) → c .number ≡ M (c .start) .used + 1
   number-is c =
-      let p = R .scx-place (c .start) (c .n) (c .r) (c .written) (c .field) (c .new) (passes c) in
+      let p = R .scx-place (c .start) (c .n) (c .closing) (c .written) (c .field) (c .new) (passes c) in
       let q : H1 (c .number) 0 Own ≡ H1 (M (c .start) .used + 1) 0 Own =
       sym (c .takes) ∙ subst (λ t. taskAt (M (suc (c .start))) t .place ≡ H1 (M (c .start) .used + 1) 0 Own) (by-task c) p in
       cc
@@ -45,7 +46,7 @@ module _ (m : Machine) (calls : ℕ → Call) (R : Run m calls) where
   another c d x q n e = n (sym q ∙ number-is d ∙ ap (λ s. M s .used + 1) e ∙ sym (number-is c))
 
   abbrev pub terms : Ch → Terms
-  terms c = termsOf (filled (M (c .start)) (c .task) (c .n) (c .list) (c .r) (c .written) (c .field) (c .new))
+  terms c = termsOf (filled (M (c .start)) (c .task) (c .n) (c .list) (c .closing) (c .written) (c .field) (c .new))
 
   pub makes : (c : Ch) → C .act (c .start) ≡ make (c .number) (terms c)
   makes c = did-is (M (c .start)) (calls (c .start)) _ (passes c) ∙ rw (number-is c, by-task c, by-list c) refl
@@ -65,7 +66,7 @@ module _ (m : Machine) (calls : ℕ → Call) (R : Run m calls) where
           task = calls s .task;
           n = n;
           list = calls s .list;
-          r = r;
+          closing = r;
           written = written;
           field = field;
           new = new;
@@ -84,3 +85,16 @@ module _ (m : Machine) (calls : ℕ → Call) (R : Run m calls) where
 
   pub during : (c : Ch) (k : ℕ) → c .start < k → Unstarted C (c .number) (suc (c .start)) k → During next m calls c k
   during c k h W = record { later = h; alone = λ d a b e. W (d .start) a b (starts d (c .number) e) }
+
+  -- every SCX is refused or is a change
+  pub is-a-change : (k n r written field new : ℕ) → calls k .ask ≡ AskScx n r written field new
+      → ((why : Refusal) × (said next m calls k ≡ Refused why)) ⊎ ((c : Ch) × (c .start ≡ k))
+  unfolding next refused
+  is-a-change k n r written field new e = go (check (rulesOf (M k) (calls k))) refl
+    where
+      go : (x : Check) → check (rulesOf (M k) (calls k)) ≡ x
+          → ((why : Refusal) × (answered x (M k) (calls k) .answer ≡ Refused why)) ⊎ ((c : Ch) × (c .start ≡ k))
+      go Passed q =
+          let (c, s, u) = change-of k (M k .used + 1) (_, did-is (M k) (calls k) _ (record { passed = q; asks = e })) in
+          inr (c, s)
+      go (Failed why) q = inl (why, refl)

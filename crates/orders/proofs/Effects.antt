@@ -1,11 +1,14 @@
 -- Effects of the statement are the writes of the course; with that, its sentences on effects and on closed records.
-use Prim.Native.Nat.{ℕ, suc, _≤_, _<_}
+use Prim.Native.Nat.{ℕ, zero, suc, _/_, _%_, _^_, _≤_, _<_}
 use mathlib.Core.Path.{_≡_, refl, sym, ap, _∙_, subst}
 use mathlib.Core.Bool.{Bool, true, false, true≢false}
 use mathlib.Core.Logic.{_⊎_, inl, inr, ⊎-elim}
 use mathlib.Core.List.{List}
 use native.Mathlib.Omega.{arith}
+use native.Mathlib.Nat.{div-one}
 use lib.ListN.{getD}
+use borrow.Author.Tests.{eq-eqb}
+use Rattle.rules.specs.Start.{places}
 use Rattle.rules.specs.Words.{Record, Machine, AskStep, Call}
 use Rattle.table.specs.Table.{pick, cellAt, recordAt, taskAt, linkAt}
 use Rattle.rules.specs.Next.{next}
@@ -107,12 +110,6 @@ module _ (m : Machine) (calls : ℕ → Call) (R : Run m calls) where
       (λ i a b z. W i (subst (λ s. suc s ≤ i) e a) b (subst (λ u. (t : Terms) × (C .act i ≡ make u t)) q z)) in
       (c, q, effect c k D (E ∙ ap write (sym q)))
 
-  -- an effect at k of a change, at j of another taking of the same number, is of one change
-  pub same-change : (c d : Ch) (k : ℕ) → During next m calls c k → During next m calls d k → c .number ≡ d .number → c .start ≡ d .start
-  same-change c d k A B e = ⊎-elim (λ q. q)
-      (λ n. ⊎-elim (λ l. absurd (A .alone d (omega arith) (B .later) (sym e))) (λ l. absurd (B .alone c l (A .later) e)) (leb-case (c .start) (d .start)))
-      (same? (c .start) (d .start))
-
   -- "alters its one field exactly once"
   pub once : (c : Ch) (j k : ℕ) → Effect next m calls c j → Effect next m calls c k → j ≡ k
   once c j k E D = ⊎-elim (λ e. e)
@@ -143,18 +140,26 @@ module _ (m : Machine) (calls : ℕ → Call) (R : Run m calls) where
           let P : S C k .terms u ≡ terms m calls R c = subst (λ u. S C k .terms u ≡ terms m calls R c) q (terms-at c k (D .during) (writes c k D)) in
           (c, D, a ∙ ap (λ (t : Terms). spotOf t) P, b ∙ ap (λ (t : Terms). t .field) P)
 
-  pub of-one-change : (c d : Ch) (k : ℕ) → Effect next m calls c k → Effect next m calls d k → c .start ≡ d .start
-  of-one-change c d k E D = same-change c d k (E .during) (D .during) (let z : write (c .number) ≡ write (d .number) = sym (writes c k E) ∙ writes d k D in cc)
+  -- the bits of R, place by place
+  bits : (r i : ℕ) → i < 4 → r / 2 ^ i % 2 ≡ 1 → getD (places r) i false ≡ true
+  bits r zero h q = eq-eqb _ _ (ap (λ x. x % 2) (sym (div-one r)) ∙ q)
+  bits r (suc zero) h q = eq-eqb _ _ q
+  bits r (suc (suc zero)) h q = eq-eqb _ _ q
+  bits r (suc (suc (suc zero))) h q = eq-eqb _ _ q
+  bits r (suc (suc (suc (suc i)))) h q = absurd (omega arith)
+
+  few : (c : Ch) (i : ℕ) → i < c .n → i < 4
+  few c i h = omega (arith, obeyed (M (c .start)) (calls (c .start)) _ (passes m calls R c) .1 .1 .0 .1)
 
   -- "From that moment, records it closes never alter"
   pub closed : (c : Ch) (k : ℕ) → Effect next m calls c k → (r : ℕ) → Closes next m calls c r → (j : ℕ) → k < j
-      → Still next m calls j r × (mark next m calls (suc j) r ≡ mark next m calls j r) × (info next m calls (suc j) r ≡ info next m calls j r)
+      → Still next m calls j r × (mark next m calls j r ≡ true) × (info next m calls j r ≡ c .number)
   closed c k E r (i, h, q, e) j l =
       let (a, b, d) = stays-closed C (c .start) (c .number) (terms m calls R c) (makes m calls R c) k (E .during .later)
-      (alone m calls R c k (E .during)) (writes c k E) i h q j l in
+      (alone m calls R c k (E .during)) (writes c k E) i h (bits (c .closing) i (few c i h) q) j l in
       let n = inside c i h in
-      subst (λ r. Still next m calls j r × (mark next m calls (suc j) r ≡ mark next m calls j r) × (info next m calls (suc j) r ≡ info next m calls j r)) e (
+      subst (λ r. Still next m calls j r × (mark next m calls j r ≡ true) × (info next m calls j r ≡ c .number)) e (
         λ f. sym (cell-is (suc j) _ f n) ∙ a f ∙ cell-is j _ f n,
-        ap (λ (x : Record). x .mark) (sym (is-in (suc j) _ n)) ∙ b ∙ ap (λ (x : Record). x .mark) (is-in j _ n),
-        ap (λ (x : Record). x .info) (sym (is-in (suc j) _ n)) ∙ d ∙ ap (λ (x : Record). x .info) (is-in j _ n),
+        ap (λ (x : Record). x .mark) (sym (is-in j _ n)) ∙ b,
+        ap (λ (x : Record). x .info) (sym (is-in j _ n)) ∙ d,
       )

@@ -1,5 +1,4 @@
--- EVERY ORDER: any calls from any fresh table meet demand 3. And in the base a number is given once, so that a change keeps its number
--- for good.
+-- EVERY ORDER: any calls from any fresh table meet demand 3.
 use Prim.Native.Nat.{ℕ}
 use mathlib.Core.Path.{_≡_}
 use mathlib.Core.Bool.{true}
@@ -11,23 +10,24 @@ use Rattle.orders.specs.Demand.{Demand3}
 use Rattle.rules.specs.Words.{Machine, Call}
 use Rattle.orders.proofs.Run.{Run}
 use Rattle.orders.proofs.FromFresh.{run}
-use Rattle.orders.proofs.Effects.{once, alters-its-field, by-an-effect, of-one-change, closed}
+use Rattle.orders.proofs.Changes.{is-a-change}
+use Rattle.orders.proofs.Effects.{once, alters-its-field, by-an-effect, closed}
 use Rattle.orders.proofs.Untouched.{untouched}
 use Rattle.orders.proofs.Verdicts.{yes-after, no-never, agree, no-because}
-use Rattle.orders.proofs.Working.{finishes, works}
+use Rattle.orders.proofs.Working.{finishes, not-taken}
 
-demand3 : (m : Machine) (calls : ℕ → Call) → Run m calls → Demand3 next m calls
+pub demand3 : (m : Machine) (calls : ℕ → Call) → Run m calls → Demand3 next m calls
 demand3 m calls R =
     record {
+      is-a-change = is-a-change m calls R;
       once = once m calls R;
       alters-its-field = alters-its-field m calls R;
       untouched = untouched m calls R;
       closed = closed m calls R;
       by-an-effect = by-an-effect m calls R;
-      of-one-change = of-one-change m calls R;
       agree = agree m calls R;
       finishes = finishes m calls R;
-      works = works m calls R;
+      not-taken = not-taken m calls R;
       yes-after = yes-after m calls R;
       no-never = no-never m calls R;
       no-because = no-because m calls R;

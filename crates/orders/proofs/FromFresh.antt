@@ -3,11 +3,12 @@
 use Prim.Native.Nat.{ℕ, zero, suc, _≤_, _<_}
 use mathlib.Core.Path.{_≡_, refl, sym, ap, _∙_, subst}
 use mathlib.Core.Bool.{Bool, true, false, true≢false}
-use mathlib.Core.Logic.{inl}
+use mathlib.Core.Logic.{inl, _≢_, ⊎-elim}
 use mathlib.Core.List.{List}
 use native.Mathlib.Omega.{arith}
 use native.Mathlib.Nat.{le-refl}
-use lib.ListN.{getD, length, replicate, getD-replicate}
+use lib.ListN.{getD, length, replicate, getD-replicate, List·getD-eq-default}
+use lib.Seq.{getD-set-other}
 use lib.Dec.{ltb}
 use borrow.Author.Tests.{ltb-true}
 use Rattle.rules.specs.Words.{Counts, Accepted, Refused}
@@ -15,7 +16,8 @@ use Rattle.rules.specs.Words.{Machine, Task, Link, Idle, AskLlx, AskScx, AskVlx
 use Rattle.table.specs.Table.{pick, noCells, maxRecords, noTask, noLink, taskAt, slot}
 use Rattle.table.specs.Fresh.{idleTask, emptyRecord, emptyLink, freshRecords, freshMachine, inRange, fresh}
 use Rattle.rules.specs.Perform.{perform}
-use Rattle.rules.specs.Step.{settle, step}
+use Rattle.rules.specs.Access.{recordOf}
+use Rattle.rules.specs.Step.{settle, accessAt, moveAt, step}
 use Rattle.rules.specs.Start.{start}
 use Rattle.rules.specs.Shape.{shape, inShape, InShape}
 use Rattle.rules.specs.Refuse.{check, rulesOf}
@@ -26,12 +28,14 @@ use Rattle.keeps.proofs.Fresh.{fresh-in-shape}
 use Rattle.keeps.proofs.Kept.{kept}
 use Rattle.keeps.proofs.Lengths.{Sized, fresh-sized, kept-sized}
 use Rattle.keeps.proofs.Stores.{picked}
+use Rattle.clauses.proofs.Updates.{leb-case}
 use Rattle.clauses.proofs.History.{none-yet}
 use Rattle.clauses.proofs.Clauses.{Live}
 use Rattle.clauses.proofs.Clauses.{Fine as Clauses}
 use Rattle.orders.specs.Demand.{before}
 use Rattle.orders.proofs.View.{taskIn, linkIn, view}
 use Rattle.orders.proofs.Number.{info-known, stamp-known, live-known}
+use Rattle.orders.proofs.Linked.{stores}
 use Rattle.orders.proofs.Settled.{steps-to, scx-starts}
 use Rattle.orders.proofs.Calls.{Passes, next-is, obeyed}
 use Rattle.orders.proofs.Run.{Run, task-in}
@@ -52,6 +56,25 @@ same-counts m e = go (check (rulesOf m e))
         asked (AskRead r f) = (refl, refl)
         asked AskStep = (refl, refl)
     go (Failed why) = (refl, refl)
+
+-- a task past P stays as it is: its own calls are refused
+past-stays : (m : Machine) (e : Call) (t : ℕ) → m .p ≤ t → taskAt (next m e .m) t ≡ taskAt m t
+unfolding next refused started start step settle perform
+past-stays m e t h = go (check (rulesOf m e)) refl
+  where
+    other : (ask : Ask) → Passes m e ask → e .task < m .p → t ≢ e .task
+    other ask P l q = omega arith
+
+    asked : (ask : Ask) → Passes m e ask → taskAt (accepted m (e .task) ask (e .list) .m) t ≡ taskAt m t
+    asked (AskLlx r) P = getD-set-other (m .tasks) (e .task) t _ noTask (other _ P (obeyed m e _ P .0))
+    asked (AskScx n r written field new) P = getD-set-other (m .tasks) (e .task) t _ noTask (other _ P (obeyed m e _ P .0))
+    asked (AskVlx n) P = getD-set-other (m .tasks) (e .task) t _ noTask (other _ P (obeyed m e _ P .0))
+    asked (AskRead r f) P = getD-set-other (m .tasks) (e .task) t _ noTask (other _ P (obeyed m e _ P .0))
+    asked AskStep P = getD-set-other (m .tasks) (e .task) t _ noTask (other _ P (obeyed m e _ P .0))
+
+    go : (c : Check) → check (rulesOf m e) ≡ c → taskAt (answered c m e .m) t ≡ taskAt m t
+    go Passed q = asked (e .ask) (record { passed = q; asks = refl })
+    go (Failed why) q = refl
 
 module _ (p n : ℕ) (values : List ℕ) (ok : inRange p n (length values) ≡ true) where
   abbrev from : Machine
@@ -133,6 +156,15 @@ module _ (p n : ℕ) (values : List ℕ) (ok : inRange p n (length values) ≡ t
     counts zero = (refl, refl)
     counts (suc k) = let (a, b) = same-counts (M k) (calls k) in let (c, d) = counts k in (a ∙ c, b ∙ d)
 
+    past : (k t : ℕ) → from .p ≤ t → taskAt (M k) t .place ≡ Idle
+    unfolding before freshMachine
+    past zero t h = rw fresh-is (all-idle t)
+      where
+        all-idle : (t : ℕ) → getD (replicate 8 idleTask) t noTask .place ≡ Idle
+        all-idle t = ⊎-elim (λ h. ap (λ (x : Task). x .place) (List·getD-eq-default (replicate 8 idleTask) noTask h))
+            (λ h. ap (λ (x : Task). x .place) (getD-replicate 8 t idleTask noTask h)) (leb-case 8 t)
+    past (suc k) t h = ap (λ (x : Task). x .place) (past-stays (M k) (calls k) t (subst (λ p. p ≤ t) (sym (counts k .0)) h)) ∙ past k t h
+
     -- where a task's own call leaves it
     place-after : (k : ℕ) (ask : Ask) → Passes (M k) (calls k) ask → calls k .task < M k .p
         → taskAt (M (suc k)) (calls k .task) .place ≡ taskIn (accepted (M k) (calls k .task) ask (calls k .list) .m) (calls k .task) .place
@@ -142,6 +174,17 @@ module _ (p n : ℕ) (values : List ℕ) (ok : inRange p n (length values) ≡ t
         ap (λ (x : Task). x .place) (sym (task-in (next (M k) (calls k) .m) (calls k .task) s))
         ∙ ap (λ (o : Out). taskIn (o .m) (calls k .task) .place) (next-is (M k) (calls k) ask P)
 
+    snapshots : (k : ℕ) → Passes (M k) (calls k) AskStep → moveAt (M k) (calls k .task) .store ≡ true
+        → linkIn (M (suc k)) (calls k .task) (recordOf (accessAt (M k) (calls k .task))) .cells ≡ next (M k) (calls k) .cells
+    unfolding before step
+    snapshots k P e =
+        let t = calls k .task in
+        let q = next-is (M k) (calls k) AskStep P in
+        ap (λ (o : Out). linkIn (o .m) t (recordOf (accessAt (M k) t)) .cells) q
+        ∙ ap (λ (l : Link). l .cells) (stores (M k) (fine (M k) (in-shape k)) (sized k) t (obeyed (M k) (calls k) AskStep P .0) e)
+        ∙ ap (λ b. pick b (taskAt (M k) t .cells) noCells) (sym e)
+        ∙ ap (λ (o : Out). o .cells) (sym q)
+
     -- EVERY RUN FROM A FRESH TABLE
     pub run : Run from calls
     unfolding before started
@@ -149,6 +192,8 @@ module _ (p n : ℕ) (values : List ℕ) (ok : inRange p n (length values) ≡ t
       shaped = λ k. fine (M k) (in-shape k);
       same-p = λ k. counts k .0;
       same-n = λ k. counts k .1;
+      past = past;
+      snapshots = snapshots;
       begins = fresh-clauses;
       no-changes = nobody;
       no-links = unlinked;

@@ -21,3 +21,4 @@ pub mod Working
 pub mod Every
 pub mod Given
 pub mod Stamps
+pub mod Follows

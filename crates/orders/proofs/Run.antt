@@ -1,11 +1,12 @@
 -- A run whose tables are in shape and whose calls are turns is a course of the clauses.
-use Prim.Native.Nat.{ℕ, suc, _+_, _<_}
+use Prim.Native.Nat.{ℕ, suc, _+_, _≤_, _<_}
 use mathlib.Core.Path.{_≡_, refl}
-use mathlib.Core.Bool.{false}
+use mathlib.Core.Bool.{true, false}
 use borrow.Author.Tests.{lt-ltb}
-use Rattle.rules.specs.Words.{Machine, Own, H1, AskScx, AskStep, Call}
+use Rattle.rules.specs.Words.{Machine, Own, Idle, H1, AskScx, AskStep, Call}
 use Rattle.table.specs.Table.{recordAt, taskAt, linkAt}
-use Rattle.rules.specs.Step.{moveAt}
+use Rattle.rules.specs.Access.{recordOf}
+use Rattle.rules.specs.Step.{accessAt, moveAt}
 use Rattle.rules.specs.Next.{next}
 use Rattle.keeps.proofs.Fine.{Fine}
 use Rattle.clauses.proofs.History.{Ghost, none-yet}
@@ -27,6 +28,11 @@ pub record Run (m : Machine) (calls : ℕ → Call) : Type 0 where
   pub turns : (k : ℕ) (G : Ghost) → Clauses (view (before next m calls k)) G
       → Turn (view (before next m calls k)) (view (before next m calls (suc k))) G (calls k .task) (did (before next m calls k) (calls k))
       (reading (before next m calls k) (calls k))
+  pub past : (k t : ℕ) → m .p ≤ t → taskAt (before next m calls k) t .place ≡ Idle
+  -- the cells of a snapshot are those of the link that it stores
+  pub snapshots : (k : ℕ) → Passes (before next m calls k) (calls k) AskStep → moveAt (before next m calls k) (calls k .task) .store ≡ true
+      → linkIn (before next m calls (suc k)) (calls k .task) (recordOf (accessAt (before next m calls k) (calls k .task))) .cells
+      ≡ next (before next m calls k) (calls k) .cells
   -- where a step and the start of an SCX lead
   pub step-place : (k : ℕ) → Passes (before next m calls k) (calls k) AskStep
       → taskAt (before next m calls (suc k)) (calls k .task) .place ≡ moveAt (before next m calls k) (calls k .task) .place

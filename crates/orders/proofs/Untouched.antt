@@ -2,19 +2,22 @@
 use Prim.Native.Nat.{ℕ, suc, _<_}
 use mathlib.Core.Path.{_≡_, sym, ap, _∙_, subst}
 use mathlib.Core.Bool.{true}
-use Rattle.rules.specs.Words.{Machine, Link, L6, Call}
+use Rattle.rules.specs.Words.{Machine, Link, L6, Call, AskStep}
 use Rattle.table.specs.Table.{taskAt, linkAt}
+use Rattle.rules.specs.Access.{recordOf}
+use Rattle.rules.specs.Step.{accessAt}
 use Rattle.rules.specs.Shape.{allLinked}
 use Rattle.rules.specs.Refuse.{linkedAt}
 use Rattle.rules.specs.Next.{next}
 use Rattle.rules.proofs.Exact.{told}
 use Rattle.clauses.proofs.Memory.{Terms}
+use Rattle.clauses.proofs.History.{Reading}
 use Rattle.clauses.proofs.Course.{Course, history}
 use Rattle.clauses.proofs.LinkedReads.{Ends, read-at}
 use Rattle.clauses.proofs.Sentences.{untouched as none-touched}
-use Rattle.orders.specs.Demand.{before, Steps, Change, named, Names, Effect, Snap, Read, Still}
+use Rattle.orders.specs.Demand.{before, Steps, Change, named, Names, Effect, Snap, LinkedRead, Still}
 use Rattle.orders.proofs.View.{linkIn}
-use Rattle.orders.proofs.Calls.{obeyed, snapped, snap-ends}
+use Rattle.orders.proofs.Calls.{obeyed, reading-is, snapped, snap-ends}
 use Rattle.orders.proofs.Run.{Run, course, link-in}
 use Rattle.orders.proofs.Changes.{by-task, passes, terms, makes, alone}
 use Rattle.orders.proofs.Effects.{cell-is, inside, step-passes, passed-steps, writes, terms-at}
@@ -48,6 +51,16 @@ module _ (m : Machine) (calls : ℕ → Call) (R : Run m calls) where
       (ap (λ t. taskAt (M e) t .place) (B .steps .by) ∙ B .at-l6) (B .answer) in
       record { by = B .steps .by; ends = a; of = b }
 
+  -- its cells are those that the call answers
+  snap-cells : (e t r : ℕ) → Ends C e t r → linkIn (M (suc e)) t r .cells ≡ next (M e) (calls e) .cells
+  snap-cells e t r E =
+      let (P, at, said) = snapped (M e) (calls e) (E .ends) in
+      let k = reading-is (M e) (calls e) AskStep P in
+      let store = sym (ap (λ (k : Reading). k .ends) k) ∙ E .ends in
+      let at-r = sym (ap (λ (k : Reading). k .at) k) ∙ E .of in
+      subst (λ r. linkIn (M (suc e)) t r .cells ≡ next (M e) (calls e) .cells) at-r
+      (subst (λ t. linkIn (M (suc e)) t (recordOf (accessAt (M e) (calls e .task))) .cells ≡ next (M e) (calls e) .cells) (E .by) (R .snapshots e P store))
+
   -- the links of a change's task to the records that it names stand at its start
   linked : (c : Ch) (i : ℕ) → i < c .n → linkAt (M (c .start)) (c .task) (named next m calls c i) .there ≡ true
   unfolding linkedAt
@@ -69,7 +82,7 @@ module _ (m : Machine) (calls : ℕ → Call) (R : Run m calls) where
 
   -- THE LINKED READ of each record that a change names, with the time that the history has for it
   pub read-of : (c : Ch) (i : ℕ) → i < c .n
-      → (e : ℕ) × Read next m calls c (named next m calls c i) e × (history C (c .start) .read (C .who (c .start)) (named next m calls c i) ≡ suc e)
+      → (e : ℕ) × LinkedRead next m calls c (named next m calls c i) e × (history C (c .start) .read (C .who (c .start)) (named next m calls c i) ≡ suc e)
   read-of c i h =
       let r = named next m calls c i in
       let (e, A) = read-at C (c .start) (c .task) r (ap (λ (k : Link). k .there) (link-is c (c .start) i h) ∙ linked c i h) in (
@@ -78,6 +91,7 @@ module _ (m : Machine) (calls : ℕ → Call) (R : Run m calls) where
           before-start = A .before;
           ends = snap-of e (c .task) r (A .ended);
           last = λ j a b B. A .last j a b (ends-of j (c .task) r B);
+          saw = ap (λ (k : Link). k .cells) (sym (link-is c (suc e) i h)) ∙ snap-cells e (c .task) r (A .ended);
           stands = λ j a b. let q = sym (link-is c j i h) ∙ A .stands j a b ∙ link-is c (suc e) i h in
               (ap (λ (k : Link). k .there) (q ∙ sym (link-is c (suc e) i h)) ∙ A .there, q);
         },
@@ -86,7 +100,7 @@ module _ (m : Machine) (calls : ℕ → Call) (R : Run m calls) where
 
   -- "From the end of each linked read to that moment .."
   pub untouched : (c : Ch) (k : ℕ) → Effect next m calls c k → (i : ℕ) → i < c .n
-      → (e : ℕ) × Read next m calls c (named next m calls c i) e
+      → (e : ℕ) × LinkedRead next m calls c (named next m calls c i) e
       × ((j : ℕ) → e < j → j < k
       → Still next m calls j (named next m calls c i) × ((d : Ch) → Effect next m calls d j → Names next m calls d (named next m calls c i) → ⊥))
   untouched c k E i h =

@@ -17,7 +17,7 @@ use Rattle.clauses.proofs.Events.{lost-frozen}
 use Rattle.clauses.proofs.Course.{Course, X, S, history, fine, born, since-start}
 use Rattle.clauses.proofs.Came.{Sets}
 use Rattle.clauses.proofs.Sentences.{happened, because, never}
-use Rattle.orders.specs.Demand.{Brings, at-h3, at-h4, at-h8, before, place, info, Steps, named, During, Effect, Holds, Read, Verdict}
+use Rattle.orders.specs.Demand.{Brings, at-h3, at-h4, at-h8, before, place, info, Steps, named, During, Effect, Holds, LinkedRead, Verdict}
 use Rattle.orders.specs.Demand.{Change as Made}
 use Rattle.orders.proofs.View.{taskIn}
 use Rattle.orders.proofs.Calls.{obeyed, held}
@@ -134,7 +134,7 @@ module _ (m : Machine) (calls : ℕ → Call) (R : Run m calls) where
 
   -- "and another change took hold of a record it named after the linked read"
   pub no-because : (c : Ch) (k : ℕ) → Verdict next m calls c k false
-      → (d : Ch) × (i e h : ℕ) × (i < c .n) × Read next m calls c (named next m calls c i) e × (e < h) × (h < k) × (d .start ≢ c .start)
+      → (d : Ch) × (i e h : ℕ) × (i < c .n) × LinkedRead next m calls c (named next m calls c i) e × (e < h) × (h < k) × (d .start ≢ c .start)
       × Holds next m calls d h (named next m calls c i)
   no-because c k B =
       let (i, l, f) = because C (c .start) (c .number) (terms m calls R c) (makes m calls R c) k (B .during .later) (alone m calls R c k (B .during))

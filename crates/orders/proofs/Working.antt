@@ -1,38 +1,35 @@
--- Who works on a change goes on or finishes with a verdict; and an SCX works on its own change until it ends.
-use Prim.Native.Nat.{ℕ, zero, suc, _<_}
+-- Who works on a change goes on, or finishes by a step of its own with a verdict on it; and no start takes the number of that change.
+use Prim.Native.Nat.{ℕ, suc, _<_}
 use mathlib.Core.Path.{_≡_, refl, sym, ap, _∙_, subst}
-use mathlib.Core.Bool.{Bool, false}
+use mathlib.Core.Bool.{Bool, false, true≢false}
 use mathlib.Core.Logic.{_⊎_, inl, inr, _≢_, ⊎-elim}
 use mathlib.Core.List.{List}
-use native.Mathlib.Omega.{arith}
-use native.Mathlib.Nat.{le-refl}
-use Rattle.rules.specs.Words.{Cell, After, Own, Machine, Place, AskStep, Accepted, Task, Call, Seen, Out}
+use Rattle.rules.specs.Words.{Cell, After, Machine, Place, AskStep, Accepted, Task, Call, Seen, Out}
 use Rattle.table.specs.Table.{changeAt, taskAt, linkAt}
 use Rattle.rules.specs.Access.{changeOf, recordOf}
 use Rattle.rules.specs.Perform.{seen}
 use Rattle.rules.specs.Step.{accessAt, moveAt, step}
 use Rattle.rules.specs.Refuse.{isIdle}
 use Rattle.rules.specs.Next.{next}
-use Rattle.clauses.proofs.Updates.{same?}
+use Rattle.clauses.proofs.Updates.{leb-case}
 use Rattle.clauses.proofs.Memory.{Shared}
 use Rattle.clauses.proofs.History.{Ghost}
-use Rattle.clauses.proofs.Clauses.{At, Live}
+use Rattle.clauses.proofs.Clauses.{At}
 use Rattle.clauses.proofs.Steps.{Saw}
-use Rattle.clauses.proofs.Course.{Course, X, S, history, fine, not-taken}
+use Rattle.clauses.proofs.Course.{Course, S, history, fine, not-taken as live-not-taken}
 use Rattle.orders.specs.Demand.{Brings, at-h3, at-h4, at-h8, Works, h1, h2, h3, h4, h5, h6, h7, h8, leads, answers}
-use Rattle.orders.specs.Demand.{before, said, place, Steps, Change, During, Verdict, Going}
+use Rattle.orders.specs.Demand.{before, said, place, Steps, Change, Verdict}
 use Rattle.orders.proofs.Seen.{saw}
 use Rattle.orders.proofs.Calls.{Passes, next-is, obeyed}
 use Rattle.orders.proofs.Finishes.{Finishing, finishing}
 use Rattle.orders.proofs.Run.{Run, course, task-in}
 use Rattle.orders.proofs.Busy.{by-steps}
-use Rattle.orders.proofs.Changes.{during}
+use Rattle.orders.proofs.Changes.{starts}
 use Rattle.orders.proofs.Effects.{step-passes, passed-steps}
-use Rattle.orders.proofs.Untouched.{task-inside}
 use Rattle.orders.proofs.Verdicts.{known-at, live-at, change-at}
 
 -- a place of work names its change, which is not 0, and is not idle
-works-on : (u : ℕ) (after : After) (q : Place) → Works u after q → (changeOf q ≡ u) × (isIdle q ≡ false)
+pub works-on : (u : ℕ) (after : After) (q : Place) → Works u after q → (changeOf q ≡ u) × (isIdle q ≡ false)
 works-on u after q h1 = (refl, refl)
 works-on u after q h2 = (refl, refl)
 works-on u after q h3 = (refl, refl)
@@ -68,6 +65,13 @@ module _ (m : Machine) (calls : ℕ → Call) (R : Run m calls) where
   abbrev Ch : Type 0
   Ch = Change next m calls
 
+  -- it goes on, or is done by a step of its own
+  abbrev Going-on : ℕ → ℕ → ℕ → After → Type 0
+  Going-on k t u after = Works u after (place next m calls (suc k) t) × (Steps next m calls k t → said next m calls k ≡ Accepted)
+
+  abbrev Done : ℕ → ℕ → ℕ → Type 0
+  Done k t u = Steps next m calls k t × ((c : Ch) × (v : Bool) × (c .number ≡ u) × Verdict next m calls c k v)
+
   -- the step's move, as the run shows it
   pub moved : (k t : ℕ) → Steps next m calls k t
       → (place next m calls (suc k) t ≡ moveAt (M k) t .place) × (said next m calls k ≡ moveAt (M k) t .answer)
@@ -89,68 +93,58 @@ module _ (m : Machine) (calls : ℕ → Call) (R : Run m calls) where
       inr (h .0, sees (S C k) s u after _ (h .0) (saw (M k) (R .shaped k) t tl) (h .1), h .2, h .3))
       (finishing u after (place next m calls k t) W s (changeAt (M k) (changeOf (place next m calls k t))) (linkAt (M k) t (recordOf (accessAt (M k) t)) .info))
 
-  pub finishes : (k t u : ℕ) (after : After) → Steps next m calls k t → Works u after (place next m calls k t)
-      → (Works u after (place next m calls (suc k) t) × (said next m calls k ≡ Accepted))
-      ⊎ ((c : Ch) × (v : Bool) × (c .number ≡ u) × Verdict next m calls c k v × (place next m calls (suc k) t ≡ leads after v)
-      × (said next m calls k ≡ answers after v))
-  finishes k t u after P W = go (finish k t u after P W)
-    where
-      go : Finishing u after (changeAt (M k) u .frozen) (place next m calls k t) (moveAt (M k) t)
-          → (Works u after (place next m calls (suc k) t) × (said next m calls k ≡ Accepted))
-          ⊎ ((c : Ch) × (v : Bool) × (c .number ≡ u) × Verdict next m calls c k v × (place next m calls (suc k) t ≡ leads after v)
-          × (said next m calls k ≡ answers after v))
-      go (inl (w, a)) = inl (subst (λ q. Works u after q) (sym (moved k t P .0)) w, moved k t P .1 ∙ a)
-      go (inr (v, B, q, a)) =
-          let h = known-at m calls R k t P in
-          let l = live-at m calls R k t u P (works-on u after _ W .0) (works-nonzero (S C k) (history C k) _ u after _ W h) in
-          let (c, e, D) = change-at m calls R k u l in
-          inr (
-            c,
-            v,
-            e,
-            record {
-              during = D;
-              by = t;
-              after = after;
-              steps = P;
-              brings = subst (λ u. Brings u after (changeAt (M k) u .frozen) (place next m calls k t) v) (sym e) B;
-            },
-            moved k t P .0 ∙ q,
-            moved k t P .1 ∙ a,
-          )
+  -- a step of a task that works on u
+  by-step : (k t u : ℕ) (after : After) → Steps next m calls k t → Works u after (place next m calls k t)
+      → Finishing u after (changeAt (M k) u .frozen) (place next m calls k t) (moveAt (M k) t) → Going-on k t u after ⊎ Done k t u
+  by-step k t u after P W (inl (w, a)) = inl (subst (λ q. Works u after q) (sym (moved k t P .0)) w, λ Q. moved k t P .1 ∙ a)
+  by-step k t u after P W (inr (v, B, q, a)) =
+      let h = known-at m calls R k t P in
+      let l = live-at m calls R k t u P (works-on u after _ W .0) (works-nonzero (S C k) (history C k) _ u after _ W h) in
+      let (c, e, D) = change-at m calls R k u l in
+      inr (
+        P,
+        (
+          c,
+          v,
+          e,
+          record {
+            during = D;
+            by = t;
+            after = after;
+            steps = P;
+            brings = subst (λ u. Brings u after (changeAt (M k) u .frozen) (place next m calls k t) v) (sym e) B;
+            ends = (moved k t P .0 ∙ q, moved k t P .1 ∙ a);
+          },
+        ),
+      )
 
-  -- until it ends
-  own-work : (c : Ch) (k : ℕ) → Going next m calls (c .start) (c .task) k → Works (c .number) Own (place next m calls k (c .task))
+  -- who works is a task of the table
+  worker : (k t u : ℕ) (after : After) → Works u after (place next m calls k t) → t < m .p
+  worker k t u after W =
+      ⊎-elim (λ h. absurd (true≢false (sym (ap isIdle (R .past k t h)) ∙ works-on u after _ W .1))) (λ l. l) (leb-case (m .p) t)
+
+  inside : (t : ℕ) → t < m .p → (k : ℕ) → t < M k .p
+  inside t h k = subst (λ p. t < p) (sym (R .same-p k)) h
+
+  pub finishes : (k t u : ℕ) (after : After) → Works u after (place next m calls k t) → Going-on k t u after ⊎ Done k t u
   unfolding before
-  own-work c zero B = absurd (omega (arith, B .later))
-  own-work c (suc k) B = ⊎-elim
-      (λ (e : k ≡ c .start). subst (λ k. Works (c .number) Own (place next m calls (suc k) (c .task))) (sym e) (rw (c .takes) h1))
-      (λ n. later (own-work c k (record { later = omega (arith, B .later); busy = λ j a b. B .busy j a (omega arith) }))) (same? k (c .start))
+  finishes k t u after W = ⊎-elim
+      (λ (h : (taskAt (M (suc k)) t ≡ taskAt (M k) t) × (Passes (M k) (calls k) AskStep → calls k .task ≢ t)).
+      inl (subst (λ (x : Task). Works u after (x .place)) (sym (h .0)) W, λ P. absurd (h .1 (step-passes m calls R k t P) (P .by))))
+      (λ (h : Passes (M k) (calls k) AskStep × (calls k .task ≡ t)).
+      let P = subst (λ t. Steps next m calls k t) (h .1) (passed-steps m calls R k (h .0)) in
+      by-step k t u after P W (finish k t u after P W))
+      (by-steps (M k) (calls k) t (inside t l k) (inside t l (suc k)) (works-on u after _ W .1))
     where
-      inside : (k : ℕ) → c .task < M k .p
-      inside k = subst (λ p. c .task < p) (sym (R .same-p k)) (task-inside m calls R c)
+      l : t < m .p
+      l = worker k t u after W
 
-      ended : Works (c .number) Own (place next m calls k (c .task)) → Steps next m calls k (c .task)
-          → Works (c .number) Own (place next m calls (suc k) (c .task))
-      ended w P = ⊎-elim (λ h. h .0)
-          (λ (h : (d : Ch) × (v : Bool) × (d .number ≡ c .number) × Verdict next m calls d k v × (place next m calls (suc k) (c .task) ≡ leads Own v)
-          × (said next m calls k ≡ answers Own v)). absurd (B .busy (suc k) (B .later) (le-refl _) (h .4)))
-          (finishes k (c .task) (c .number) Own P w)
-
-      later : Works (c .number) Own (place next m calls k (c .task)) → Works (c .number) Own (place next m calls (suc k) (c .task))
-      later w = ⊎-elim (λ (e : taskAt (M (suc k)) (c .task) ≡ taskAt (M k) (c .task)). subst (λ (x : Task). Works (c .number) Own (x .place)) (sym e) w)
-          (λ (h : Passes (M k) (calls k) AskStep × (calls k .task ≡ c .task)). ended w
-          (subst (λ t. Steps next m calls k t) (h .1) (passed-steps m calls R k (h .0))))
-          (by-steps (M k) (calls k) (c .task) (inside k) (inside (suc k)) (works-on (c .number) Own _ w .1))
-
-  pub works : (c : Ch) (k : ℕ) → Going next m calls (c .start) (c .task) k → Works (c .number) Own (place next m calls k (c .task)) × During next m calls c k
-  works c k B = (own-work c k B, during m calls R c k (B .later) (λ i a b z. not-taken C i (c .number) (live i a b) z))
-    where
-      live : (i : ℕ) → c .start < i → i < k → Live (X C i) (c .number)
-      live i a b =
-          let w = own-work c i (record { later = a; busy = λ j p q. B .busy j p (omega arith) }) in
-          let e = task-in (M i) (c .task) (subst (λ p. c .task < p) (sym (R .same-p i)) (task-inside m calls R c)) in
-          let h = subst (λ (x : Task). At (S C i) (history C i) (x .cells) (x .place)) e (fine C i .PLACES (c .task)) in (
-            works-nonzero (S C i) (history C i) _ (c .number) Own _ w h,
-            inr (c .task, ap (λ (x : Task). changeOf (x .place)) e ∙ works-on (c .number) Own _ w .0),
-          )
+  pub not-taken : (c : Ch) (t : ℕ) (after : After) → Works (c .number) after (place next m calls (c .start) t) → ⊥
+  not-taken c t after W =
+      let k = c .start in
+      let e = task-in (M k) t (inside t (worker k t (c .number) after W) k) in
+      let h = subst (λ (x : Task). At (S C k) (history C k) (x .cells) (x .place)) e (fine C k .PLACES t) in
+      live-not-taken C k (c .number) (
+        works-nonzero (S C k) (history C k) _ (c .number) after _ W h,
+        inr (t, ap (λ (x : Task). changeOf (x .place)) e ∙ works-on (c .number) after _ W .0),
+      ) (starts m calls R c (c .number) refl)

@@ -1,7 +1,8 @@
 -- DEMAND 3. "Take any calls from a fresh table, tasks stopping anywhere": a run is a table and a call for each number, answered one
--- after the other by `next`; a task that stops is one that is called no more. Below are the events of a run, then the demand, a field
--- for each sentence. The theorem is `every-order` in proofs/Every.antt: Demand3 next (the fresh table) calls, for all calls.
-use Prim.Native.Nat.{ℕ, zero, suc, _≤_, _<_}
+-- after the other by `next`. A task that stops is one that is called no more; a run that ends is one whose further calls are refused.
+-- Below are the events of a run of any machine, then the demand, each of its sentences above the fields that render it. The theorem is
+-- `every-order` in proofs/Every.antt: Demand3 next (the fresh table) calls, for all calls.
+use Prim.Native.Nat.{ℕ, zero, suc, _/_, _%_, _^_, _≤_, _<_}
 use mathlib.Core.Path.{_≡_}
 use mathlib.Core.Logic.{_⊎_, _≢_}
 use mathlib.Core.Bool.{Bool, true, false}
@@ -10,7 +11,6 @@ use lib.ListN.{getD}
 use Rattle.rules.specs.Words.{Cell, After, Own, AtL8, AtL11, Place, Idle, L6, L9, H1, H2, H3, H4, H5, H6, H7, H8, Machine, Out}
 use Rattle.rules.specs.Words.{Call, AskScx, AskStep, Refusal, Answer, Accepted, Snapshot, Finalized, Fail, Yes, No, Refused}
 use Rattle.table.specs.Table.{cellAt, recordAt, changeAt, taskAt, linkAt}
-use Rattle.rules.specs.Start.{places}
 
 -- "H3 .. yes gives verdict yes", "H4 .. verdict no", "H8 .. verdict yes": the verdict on u that a step from a place brings
 pub data Brings (u : ℕ) (after : After) (frozen : Bool) : Place → Bool → Type 0 where
@@ -29,7 +29,8 @@ pub data Works (u : ℕ) (after : After) : Place → Type 0 where
   h7 : Works u after (H7 u after)
   h8 : Works u after (H8 u after)
 
--- what a verdict is to who brings it: the SCX's own answer; "yes with m1 answers Finalized, otherwise L9"; "then Fail"
+-- what a verdict is to who brings it: the SCX's own answer; "yes with m1 answers Finalized, otherwise L9"; "then Fail". Said here and
+-- not taken from the rules, so that rules which answer otherwise fail the demand
 abbrev pub leads : After → Bool → Place
 leads Own b = Idle
 leads (AtL8 r true) true = Idle
@@ -79,16 +80,16 @@ module _ (next : Machine → Call → Out) (m : Machine) (calls : ℕ → Call) 
     pub task : ℕ
     pub n : ℕ
     pub list : List ℕ
-    pub r : ℕ
+    pub closing : ℕ
     pub written : ℕ
     pub field : ℕ
     pub new : ℕ
     pub number : ℕ
-    pub asks : calls start ≡ record { task = task; ask = AskScx n r written field new; list = list }
+    pub asks : calls start ≡ record { task = task; ask = AskScx n closing written field new; list = list }
     pub accepted : said start ≡ Accepted
     pub takes : place (suc start) task ≡ H1 number 0 Own
 
-  -- the records it names, the one it writes, those it closes
+  -- the records it names, the one it writes, those it closes: the places whose bits are set
   abbrev pub named : Change → ℕ → ℕ
   named c i = getD (c .list) i 0
 
@@ -99,9 +100,10 @@ module _ (next : Machine → Call → Out) (m : Machine) (calls : ℕ → Call) 
   spot c = named c (c .written)
 
   abbrev pub Closes : Change → ℕ → Type 0
-  Closes c r = (i : ℕ) × (i < c .n) × (getD (places (c .r)) i false ≡ true) × (named c i ≡ r)
+  Closes c r = (i : ℕ) × (i < c .n) × (c .closing / 2 ^ i % 2 ≡ 1) × (named c i ≡ r)
 
-  -- call k comes after the start of c and no other start took its number between; in the base none ever does (`given-once`)
+  -- call k comes after the start of c and no other start took its number between; in the base none ever does
+  -- (`given-once` in proofs/Given.antt)
   pub record During (c : Change) (k : ℕ) : Type 0 where
     pub later : c .start < k
     pub alone : (d : Change) → c .start < d .start → d .start < k → d .number ≢ c .number
@@ -135,11 +137,13 @@ module _ (next : Machine → Call → Out) (m : Machine) (calls : ℕ → Call) 
     pub at-l6 : place k t ≡ L6 r m1 a
     pub answer : said k ≡ Snapshot
 
-  -- THE LINKED READ of r for c ended at e: the task's last snapshot of r before the start, whose link stands until then
-  pub record Read (c : Change) (r e : ℕ) : Type 0 where
+  -- THE LINKED READ of r for c ended at e: the task's last snapshot of r before the start. Its four cells are in the link, which stands
+  -- until then
+  pub record LinkedRead (c : Change) (r e : ℕ) : Type 0 where
     pub before-start : e < c .start
     pub ends : Snap e (c .task) r
     pub last : (j : ℕ) → e < j → j < c .start → Snap j (c .task) r → ⊥
+    pub saw : linkAt (before (suc e)) (c .task) r .cells ≡ next (before e) (calls e) .cells
     pub stands : (j : ℕ) → e < j → j ≤ c .start
         → (linkAt (before j) (c .task) r .there ≡ true) × (linkAt (before j) (c .task) r ≡ linkAt (before (suc e)) (c .task) r)
 
@@ -150,6 +154,7 @@ module _ (next : Machine → Call → Out) (m : Machine) (calls : ℕ → Call) 
     pub after : After
     pub steps : Steps k by
     pub brings : Brings (c .number) after (changeAt (before k) (c .number) .frozen) (place k by) yes
+    pub ends : (place (suc k) by ≡ leads after yes) × (said k ≡ answers after yes)
 
   -- no cell of r alters in call k
   abbrev pub Still : ℕ → ℕ → Type 0
@@ -161,8 +166,11 @@ module _ (next : Machine → Call → Out) (m : Machine) (calls : ℕ → Call) 
     pub busy : (j : ℕ) → s < j → j ≤ k → place j t ≢ Idle
 
   pub record Demand3 : Type 0 where
-    -- "A change that takes effect alters its one field exactly once": one effect at most, from the cell that the linked read saw to
-    -- the new value with the change's number
+    -- every SCX is refused or is a change
+    pub is-a-change : (k n closing written field new : ℕ) → calls k .ask ≡ AskScx n closing written field new
+        → ((why : Refusal) × (said k ≡ Refused why)) ⊎ ((c : Change) × (c .start ≡ k))
+    -- "A change that takes effect alters its one field exactly once": one effect at most, from the cell in its link to the new value with
+    -- the change's number
     pub once : (c : Change) (j k : ℕ) → Effect c j → Effect c k → j ≡ k
     pub alters-its-field : (c : Change) (k : ℕ) → Effect c k
         → (cell k (spot c) (c .field) ≡ cellAt (linkAt (before (c .start)) (c .task) (spot c) .cells) (c .field))
@@ -170,27 +178,26 @@ module _ (next : Machine → Call → Out) (m : Machine) (calls : ℕ → Call) 
     -- "From the end of each linked read to that moment, no field of a record it named altered and no other change naming that record
     -- took effect."
     pub untouched : (c : Change) (k : ℕ) → Effect c k → (i : ℕ) → i < c .n
-        → (e : ℕ) × Read c (named c i) e
+        → (e : ℕ) × LinkedRead c (named c i) e
         × ((j : ℕ) → e < j → j < k → Still j (named c i) × ((d : Change) → Effect d j → Names d (named c i) → ⊥))
-    -- "From that moment, records it closes never alter": neither cells nor mark nor info
+    -- "From that moment, records it closes never alter": neither cells nor mark nor info; they are marked, and the change holds them
     pub closed : (c : Change) (k : ℕ) → Effect c k → (r : ℕ) → Closes c r → (j : ℕ) → k < j
-        → Still j r × (mark (suc j) r ≡ mark j r) × (info (suc j) r ≡ info j r)
-    -- "A change without effect alters no field": what alters a field is the effect of the change that names it, and of no other
+        → Still j r × (mark j r ≡ true) × (info j r ≡ c .number)
+    -- "A change without effect alters no field": what alters a field of the table is an effect of the change that names it
     pub by-an-effect : (k r f : ℕ) → r < m .n
         → (cell (suc k) r f ≡ cell k r f) ⊎ ((c : Change) × Effect c k × (r ≡ spot c) × (f ≡ c .field))
-    pub of-one-change : (c d : Change) (k : ℕ) → Effect c k → Effect d k → c .start ≡ d .start
     -- "All tasks that finish work on one change bring the same verdict"
     pub agree : (c : Change) (j k : ℕ) (a b : Bool) → Verdict c j a → Verdict c k b → a ≡ b
-    -- who works on a change goes on, or finishes with a verdict on it, which is its answer and leads on
-    pub finishes : (k t u : ℕ) (after : After) → Steps k t → Works u after (place k t)
-        → (Works u after (place (suc k) t) × (said k ≡ Accepted))
-        ⊎ ((c : Change) × (yes : Bool) × (c .number ≡ u) × Verdict c k yes × (place (suc k) t ≡ leads after yes) × (said k ≡ answers after yes))
-    -- and an SCX works on its own change until it ends
-    pub works : (c : Change) (k : ℕ) → Going (c .start) (c .task) k → Works (c .number) Own (place k (c .task)) × During c k
+    -- who works on a change goes on, or finishes by a step of its own with a verdict on it ..
+    pub finishes : (k t u : ℕ) (after : After) → Works u after (place k t)
+        → (Works u after (place (suc k) t) × (Steps k t → said k ≡ Accepted))
+        ⊎ (Steps k t × ((c : Change) × (yes : Bool) × (c .number ≡ u) × Verdict c k yes))
+    -- .. and always on that one change: no start takes a number that a task works on
+    pub not-taken : (c : Change) (t : ℕ) (after : After) → Works (c .number) after (place (c .start) t) → ⊥
     -- "yes only after the effect"
     pub yes-after : (c : Change) (k : ℕ) → Verdict c k true → (j : ℕ) × (j < k) × Effect c j
     -- "no only if there never is one"
     pub no-never : (c : Change) (k : ℕ) → Verdict c k false → (j : ℕ) → Effect c j → ⊥
     -- "and another change took hold of a record it named after the linked read"
     pub no-because : (c : Change) (k : ℕ) → Verdict c k false
-        → (d : Change) × (i e h : ℕ) × (i < c .n) × Read c (named c i) e × (e < h) × (h < k) × (d .start ≢ c .start) × Holds d h (named c i)
+        → (d : Change) × (i e h : ℕ) × (i < c .n) × LinkedRead c (named c i) e × (e < h) × (h < k) × (d .start ≢ c .start) × Holds d h (named c i)
