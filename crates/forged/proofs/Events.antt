@@ -11,13 +11,12 @@ use Rattle.table.specs.Table.{noChange, cellAt, recordAt, changeAt, taskAt, lin
 use Rattle.rules.specs.Claim.{both}
 use Rattle.rules.proofs.Exact.{both-is, both-on}
 use Rattle.rules.specs.Access.{changeOf, accessOf, recordOf}
-use Rattle.rules.specs.Refuse.{isIdle}
 use Rattle.rules.specs.Next.{scx, stepping}
-use Rattle.orders.specs.Demand.{Brings, before, said, place, cell, info, Steps, Change, named, spot}
-use Rattle.orders.specs.Demand.{During, Effect, Holds, Snap, Read, Verdict, Going}
+use Rattle.orders.specs.Demand.{Brings, leads, answers, before, said, place, cell, info, Steps, Change, named, spot}
+use Rattle.orders.specs.Demand.{During, Effect, Holds, Snap, LinkedRead, Verdict}
 use Rattle.forged.specs.Places.{isScx}
 use Rattle.forged.proofs.Through.{throughout, throughout-is, silent, silent-is}
-use Rattle.forged.proofs.Tests.{isRefused, isSnapshot, not-refused, not-same, sameLink, same-link}
+use Rattle.forged.proofs.Tests.{isRefused, isSnapshot, not-refused, not-same, sameList, same-list, sameLink, same-link}
 
 -- THE TESTS, of a call and the table before it
 module _ (next : Machine → Call → Out) (m : Machine) (calls : ℕ → Call) where
@@ -45,9 +44,6 @@ module _ (next : Machine → Call → Out) (m : Machine) (calls : ℕ → Call) 
   abbrev pub stays : ℕ → ℕ → Machine → ℕ → Machine → Bool
   stays t r y k x = sameLink (linkAt x t r) (linkAt y t r)
 
-  abbrev pub rests : ℕ → ℕ → Machine → Bool
-  rests t k x = isIdle (taskAt x t .place)
-
   -- call k is a STEP of t that is not refused
   abbrev pub going : ℕ → ℕ → Type 0
   going k t = (calls k ≡ stepping t) × (isRefused (said next m calls k) ≡ false)
@@ -65,7 +61,7 @@ module _ (next : Machine → Call → Out) (m : Machine) (calls : ℕ → Call) 
         task = task;
         n = n;
         list = list;
-        r = r;
+        closing = r;
         written = written;
         field = field;
         new = new;
@@ -130,8 +126,10 @@ module _ {next : Machine → Call → Out} {m : Machine} {calls : ℕ → Call} 
   pub verdict : (c : Change next m calls) (k t : ℕ) (after : After) (b : Bool) → within next m calls c k ≡ true
       → going next m calls k t
       → Brings (c .number) after (changeAt (before next m calls k) (c .number) .frozen) (place next m calls k t) b
+      → (place next m calls (suc k) t ≡ leads after b) × (said next m calls k ≡ answers after b)
       → Verdict next m calls c k b
-  verdict c k t after b w s h = record { during = during c k w; by = t; after = after; steps = steps next m calls k t s; brings = h }
+  verdict c k t after b w s h e =
+      record { during = during c k w; by = t; after = after; steps = steps next m calls k t s; brings = h; ends = e }
 
   pub snaps-is : (t r j : ℕ) → Snap next m calls j t r → snaps next m calls t r j (before next m calls j) ≡ true
   unfolding both
@@ -142,22 +140,16 @@ module _ {next : Machine → Call → Out} {m : Machine} {calls : ℕ → Call} 
       → said next m calls e ≡ Snapshot
       → silent next m calls (snaps next m calls (c .task) r) e (c .start) ≡ true
       → throughout next m calls (stays next m calls (c .task) r (before next m calls (suc e))) e (suc (c .start)) ≡ true
-      → Read next m calls c r e
-  linked c r e m1 a l s q x only stands =
+      → sameList (linkAt (before next m calls (suc e)) (c .task) r .cells) (next (before next m calls e) (calls e) .cells) ≡ true
+      → LinkedRead next m calls c r e
+  linked c r e m1 a l s q x only stands saw =
       let y = before next m calls (suc e) in
       record {
         before-start = ltb-true e (c .start) l;
         ends = record { m1 = m1; a = a; steps = steps next m calls e (c .task) s; at-l6 = q; answer = x };
         last = λ j l1 l2 h. silent-is next m calls (snaps next m calls (c .task) r) e (c .start) only j l1 l2 (snaps-is (c .task) r j h);
+        saw = same-list (linkAt y (c .task) r .cells) (next (before next m calls e) (calls e) .cells) saw;
         stands = λ j l1 l2.
             same-link (linkAt (before next m calls j) (c .task) r) (linkAt y (c .task) r)
             (throughout-is next m calls (stays next m calls (c .task) r y) e (suc (c .start)) stands j l1 (omega arith));
-      }
-
-  pub busy : (c : Change next m calls) (k : ℕ) → ltb (c .start) k ≡ true
-      → silent next m calls (rests next m calls (c .task)) (c .start) (suc k) ≡ true → Going next m calls (c .start) (c .task) k
-  busy c k l h =
-      record {
-        later = ltb-true (c .start) k l;
-        busy = λ j l1 l2 e. silent-is next m calls (rests next m calls (c .task)) (c .start) (suc k) h j l1 (omega arith) (ap isIdle e);
       }

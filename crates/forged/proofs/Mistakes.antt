@@ -2,9 +2,9 @@
 -- m1 before helping at L8 and dropping links on a refused call alter no order's outcome: it is demand 2's exact steps that stop them.
 use Prim.Native.Nat.{ℕ}
 use native.Mathlib.Omega.{arith}
-use mathlib.Core.Bool.{true, false, true≢false}
+use mathlib.Core.Bool.{true, false, true≢false, false≢true}
 use mathlib.Core.List.{[], _∷_, _++_}
-use mathlib.Core.Path.{_≡_, refl}
+use mathlib.Core.Path.{refl}
 use borrow.Author.Tests.{ltb-true}
 use Rattle.rules.specs.Words.{Call, Own, AtL8}
 use Rattle.rules.specs.Next.{llx}
@@ -32,18 +32,18 @@ on-two = begun no-without-frozen table run-5 20 A 2 (0 ∷ 1 ∷ 0 ∷ 0 ∷ [])
 
 no-of-the-owner : Verdict no-without-frozen table run-5 on-two 55 false
 unfolding computed table run-5 no-without-frozen
-no-of-the-owner = verdict on-two 55 A Own false refl (refl, refl) at-h4
+no-of-the-owner = verdict on-two 55 A Own false refl (refl, refl) at-h4 (refl, refl)
 
 pub no-without-frozen-disagrees : Demand3 no-without-frozen table run-5 → ⊥
 unfolding computed table run-5 no-without-frozen
 no-without-frozen-disagrees D =
-    true≢false (D .agree on-two 34 55 true false (verdict on-two 34 B (AtL8 0 false) true refl (refl, refl) at-h8) no-of-the-owner)
+    true≢false (D .agree on-two 34 55 true false (verdict on-two 34 B (AtL8 0 false) true refl (refl, refl) at-h8 (refl, refl)) no-of-the-owner)
 
 pub no-without-frozen-fails : Demand3 no-without-frozen table run-5 → ⊥
 unfolding computed table run-5 no-without-frozen
 no-without-frozen-fails D = D .no-never on-two 55 no-of-the-owner 33 (effect on-two 33 B (AtL8 0 false) refl (refl, refl) refl refl)
 
--- closed: A closes 0, and the mark alters after the effect
+-- closed: A closes 0, and after the effect it is not marked
 unfoldable pub closing : ℕ → Call
 closing = script (reads A 0 ++ (closes A 0 ∷ goes A 4))
 
@@ -52,4 +52,4 @@ unfolding computed table closing marks-late
 marks-late-fails D =
     let c = begun marks-late table closing 10 A 1 (just 0) 1 0 0 7 1 refl refl refl in
     let e = effect c 13 A Own refl (refl, refl) refl refl in
-    true≢false (D .closed c 13 e 0 (0, ltb-true 0 1 refl, refl, refl) 14 (ltb-true 13 14 refl) .1)
+    false≢true (D .closed c 13 e 0 (0, ltb-true 0 1 refl, refl, refl) 14 (ltb-true 13 14 refl) .1)

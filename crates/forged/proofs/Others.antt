@@ -7,9 +7,9 @@ use mathlib.Core.Path.{_≡_, refl, ap}
 use borrow.Author.Tests.{ltb-true}
 use Rattle.rules.specs.Words.{Call, Own}
 use Rattle.rules.specs.Next.{llx, scx}
-use Rattle.orders.specs.Demand.{at-h4, at-h8, Demand3}
+use Rattle.orders.specs.Demand.{at-h4, at-h8, h1, Demand3}
 use Rattle.forged.specs.Broken.{uncompared, mark-unread, hold-anyway, hold-first, commit-first, one-more, twice-given}
-use Rattle.forged.proofs.Events.{begun, effect, verdict, busy}
+use Rattle.forged.proofs.Events.{begun, effect, verdict}
 use Rattle.forged.proofs.Without.{no-effect, no-hold, read-by}
 use Rattle.forged.proofs.Script.{computed, table, script, A, B, goes, reads, just, writes, closes}
 
@@ -27,7 +27,7 @@ pub uncompared-fails : Demand3 uncompared table overtaken → ⊥
 unfolding computed table overtaken uncompared
 uncompared-fails D =
     let c = begun uncompared table overtaken 22 A 1 (just 0) 0 0 0 7 2 refl refl refl in
-    let (d, i, e, h, l, r, l1, l2, other, H) = D .no-because c 26 (verdict c 26 A Own false refl (refl, refl) at-h4) in
+    let (d, i, e, h, l, r, l1, l2, other, H) = D .no-because c 26 (verdict c 26 A Own false refl (refl, refl) at-h4 (refl, refl)) in
     no-hold c 26 refl d i e h l r l1 l2 H
 
 -- closed, m2 not looked at: A closes 0, B reads it all the same, and takes hold of what is closed
@@ -39,7 +39,7 @@ unfolding computed table after-closing mark-unread
 mark-unread-fails D =
     let c = begun mark-unread table after-closing 10 A 1 (just 0) 1 0 0 7 1 refl refl refl in
     let e = effect c 14 A Own refl (refl, refl) refl refl in
-    let z : _≡_ {A = ℕ} 2 1 = D .closed c 14 e 0 (0, ltb-true 0 1 refl, refl, refl) 27 (ltb-true 14 27 refl) .2 in
+    let z : _≡_ {A = ℕ} 2 1 = D .closed c 14 e 0 (0, ltb-true 0 1 refl, refl, refl) 28 (ltb-true 14 28 refl) .2 in
     absurd (omega arith)
 
 -- closed, H1 unconditional: both read 0, A closes it, B takes hold of what is closed
@@ -51,7 +51,7 @@ unfolding computed table both-linked hold-anyway
 hold-anyway-fails D =
     let c = begun hold-anyway table both-linked 20 A 1 (just 0) 1 0 0 7 1 refl refl refl in
     let e = effect c 24 A Own refl (refl, refl) refl refl in
-    let z : _≡_ {A = ℕ} 2 1 = D .closed c 24 e 0 (0, ltb-true 0 1 refl, refl, refl) 27 (ltb-true 24 27 refl) .2 in
+    let z : _≡_ {A = ℕ} 2 1 = D .closed c 24 e 0 (0, ltb-true 0 1 refl, refl, refl) 28 (ltb-true 24 28 refl) .2 in
     absurd (omega arith)
 
 -- untouched, only the first record held: A reads 0 and 1, B changes 1, A's change of <0, 1> takes effect
@@ -89,7 +89,7 @@ pub commit-first-fails : Demand3 commit-first table between → ⊥
 unfolding computed table between commit-first
 commit-first-fails D =
     let c = begun commit-first table between 25 B 1 (just 0) 0 0 0 7 2 refl refl refl in
-    let (j, l, e) = D .yes-after c 30 (verdict c 30 B Own true refl (refl, refl) at-h8) in
+    let (j, l, e) = D .yes-after c 30 (verdict c 30 B Own true refl (refl, refl) at-h8 (refl, refl)) in
     no-effect c 30 refl j l e
 
 -- alters-its-field, another value written
@@ -104,13 +104,10 @@ one-more-fails D =
     let z : _≡_ {A = ℕ} 8 7 = ap (λ x. x .value) (D .alters-its-field c 13 e .1) in
     absurd (omega arith)
 
--- works, a number given twice: nobody can tell the two changes apart
+-- not-taken, a number given twice: B's start takes the number that A works on
 unfoldable pub both-start : ℕ → Call
 both-start = script (reads A 0 ++ reads B 0 ++ (writes A 0 7 ∷ writes B 0 7 ∷ []))
 
 pub twice-given-fails : Demand3 twice-given table both-start → ⊥
 unfolding computed table both-start twice-given
-twice-given-fails D =
-    let c = begun twice-given table both-start 20 A 1 (just 0) 0 0 0 7 1 refl refl refl in
-    let d = begun twice-given table both-start 21 B 1 (just 0) 0 0 0 7 1 refl refl refl in
-    D .works c 22 (busy c 22 refl refl) .1 .alone d (ltb-true 20 21 refl) (ltb-true 21 22 refl) refl
+twice-given-fails D = D .not-taken (begun twice-given table both-start 21 B 1 (just 0) 0 0 0 7 1 refl refl refl) A Own h1

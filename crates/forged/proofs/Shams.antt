@@ -1,4 +1,4 @@
--- THE SHAMS of document 01. Four fail demand 3, each in a short run and in the field that its theorem uses. A machine that refuses all
+-- THE SHAMS of document 01. Five fail demand 3, each in a short run and in the field that its theorem uses. A machine that refuses all
 -- calls meets demand 3 (proofs/Beyond.antt): it is the exact refusals that stop it. The made-up tally is no part of this machine.
 use Prim.Native.Nat.{ℕ}
 use native.Mathlib.Omega.{arith}
@@ -6,15 +6,15 @@ use native.Mathlib.Nat.{lt-trans}
 use mathlib.Core.Bool.{true, false, false≢true}
 use mathlib.Core.Logic.{⊎-elim}
 use mathlib.Core.List.{_∷_, _++_}
-use mathlib.Core.Path.{_≡_, refl, ap, _∙_}
+use mathlib.Core.Path.{_≡_, refl, ap}
 use borrow.Author.Tests.{ltb-true}
 use Rattle.rules.specs.Words.{Call, Own}
 use Rattle.rules.specs.Answer.{number}
-use Rattle.orders.specs.Demand.{at-h4, at-h8, h4, answers, cell, spot, Change, Effect, Demand3}
+use Rattle.orders.specs.Demand.{at-h4, at-h8, h4, cell, spot, Change, Effect, Demand3}
 use Rattle.forged.specs.Places.{isH}
-use Rattle.forged.specs.Broken.{always-aborts, always-yes, untouching, at-once}
-use Rattle.forged.proofs.Events.{begun, steps, verdict}
-use Rattle.forged.proofs.Without.{idle-works, effect-at, no-effect, verdict-no, only-start}
+use Rattle.forged.specs.Broken.{always-aborts, always-yes, untouching, at-once, yes-to-all}
+use Rattle.forged.proofs.Events.{begun, verdict}
+use Rattle.forged.proofs.Without.{idle-works, effect-at, no-effect, said-no, only-start}
 use Rattle.forged.proofs.Script.{computed, table, script, A, B, goes, reads, just, writes}
 
 -- A reads 0 and makes a change of it, alone
@@ -26,7 +26,7 @@ pub always-aborts-fails : Demand3 always-aborts table alone → ⊥
 unfolding computed table alone always-aborts
 always-aborts-fails D =
     let c = begun always-aborts table alone 10 A 1 (just 0) 0 0 0 7 1 refl refl refl in
-    let (d, i, e, h, l, r, l1, l2, other, H) = D .no-because c 12 (verdict c 12 A Own false refl (refl, refl) at-h4) in
+    let (d, i, e, h, l, r, l1, l2, other, H) = D .no-because c 12 (verdict c 12 A Own false refl (refl, refl) at-h4 (refl, refl)) in
     other (only-start 10 12 refl d (lt-trans (H .during .later) l2))
 
 -- yes-after: the cell never altered
@@ -34,7 +34,7 @@ pub untouching-fails : Demand3 untouching table alone → ⊥
 unfolding computed table alone untouching
 untouching-fails D =
     let c = begun untouching table alone 10 A 1 (just 0) 0 0 0 7 1 refl refl refl in
-    let (j, l, e) = D .yes-after c 14 (verdict c 14 A Own true refl (refl, refl) at-h8) in
+    let (j, l, e) = D .yes-after c 14 (verdict c 14 A Own true refl (refl, refl) at-h8 (refl, refl)) in
     no-effect c 14 refl j l e
 
 -- by-an-effect: the cell alters in a step from H1
@@ -58,7 +58,13 @@ pub always-yes-fails : Demand3 always-yes table rivals → ⊥
 unfolding computed table rivals always-yes
 always-yes-fails D =
     ⊎-elim (λ on. idle-works (on .0) refl)
-    (λ (c, b, u, v, to, told).
-    let z : _≡_ {A = ℕ} 4 5 = ap number (told ∙ ap (answers Own) (verdict-no c 26 b v refl)) in
-    absurd (omega arith))
-    (D .finishes 26 B 2 Own (steps always-yes table rivals 26 B (refl, refl)) h4)
+    (λ (P, (c, b, u, v)). let z : _≡_ {A = ℕ} 4 5 = ap number (said-no c 26 b v refl refl) in absurd (omega arith))
+    (D .finishes 26 B 2 Own h4)
+
+-- is-a-change: yes to every call, and nothing done
+pub yes-to-all-fails : Demand3 yes-to-all table alone → ⊥
+unfolding computed table alone yes-to-all
+yes-to-all-fails D =
+    ⊎-elim (λ (why, e). let z : _≡_ {A = ℕ} 0 1 = cc in absurd (omega arith))
+    (λ (c, e). let z : _≡_ {A = ℕ} 4 0 = ap number (c .accepted) in absurd (omega arith))
+    (D .is-a-change 10 1 0 0 0 7 refl)

@@ -9,12 +9,12 @@ use mathlib.Core.List.{[], _∷_, _++_}
 use mathlib.Core.Path.{_≡_, refl}
 use lib.Dec.{eqb}
 use borrow.Author.Tests.{ltb-true}
-use Rattle.rules.specs.Words.{Call, After, Own, AtL8, H1, H7, Finalized, No}
+use Rattle.rules.specs.Words.{Call, AskScx, Own, AtL8, H1, H7, Finalized, No}
 use Rattle.rules.specs.Next.{next, llx, scx}
-use Rattle.orders.specs.Demand.{at-h4, at-h8, Works, h4, h7, h8, leads, answers, said, place, cell, mark}
-use Rattle.orders.specs.Demand.{Steps, Change, Closes, During, Effect, Holds, Read, Verdict, Going}
+use Rattle.orders.specs.Demand.{at-h4, at-h8, Works, h1, h4, h7, h8, leads, answers, said, place, cell, mark}
+use Rattle.orders.specs.Demand.{Steps, Change, Closes, During, Effect, Holds, LinkedRead, Verdict}
 use Rattle.forged.proofs.Through.{throughout}
-use Rattle.forged.proofs.Events.{begun, during, steps, effect, hold, verdict, linked, busy}
+use Rattle.forged.proofs.Events.{begun, during, steps, effect, hold, verdict, linked}
 use Rattle.forged.proofs.Script.{computed, table, script, A, B, goes, reads, just, writes}
 
 unfoldable pub calls : ℕ → Call
@@ -39,17 +39,17 @@ unfolding computed table calls
 second = begun next table calls 48 B 1 (just 0) 0 0 0 7 2 refl refl refl
 
 -- the linked reads
-pub first-read-0 : Read next table calls first 0 9
+pub first-read-0 : LinkedRead next table calls first 0 9
 unfolding computed table calls
-first-read-0 = linked first 0 9 false 0 refl (refl, refl) refl refl refl refl
+first-read-0 = linked first 0 9 false 0 refl (refl, refl) refl refl refl refl refl
 
-pub first-read-1 : Read next table calls first 1 19
+pub first-read-1 : LinkedRead next table calls first 1 19
 unfolding computed table calls
-first-read-1 = linked first 1 19 false 0 refl (refl, refl) refl refl refl refl
+first-read-1 = linked first 1 19 false 0 refl (refl, refl) refl refl refl refl refl
 
-pub second-read-0 : Read next table calls second 0 29
+pub second-read-0 : LinkedRead next table calls second 0 29
 unfolding computed table calls
-second-read-0 = linked second 0 29 false 0 refl (refl, refl) refl refl refl refl
+second-read-0 = linked second 0 29 false 0 refl (refl, refl) refl refl refl refl refl
 
 -- B takes hold of 0 for A's change, and alters its field: A is called neither then nor for long after
 pub held : Holds next table calls first 41 0
@@ -67,17 +67,22 @@ owner-stopped = refl
 -- the helper's verdict, the owner's, and B's on its own change
 pub helper-yes : Verdict next table calls first 45 true
 unfolding computed table calls
-helper-yes = verdict first 45 B (AtL8 1 false) true refl (refl, refl) at-h8
+helper-yes = verdict first 45 B (AtL8 1 false) true refl (refl, refl) at-h8 (refl, refl)
 
 pub owner-yes : Verdict next table calls first 58 true
 unfolding computed table calls
-owner-yes = verdict first 58 A Own true refl (refl, refl) at-h8
+owner-yes = verdict first 58 A Own true refl (refl, refl) at-h8 (refl, refl)
 
 pub second-no : Verdict next table calls second 52 false
 unfolding computed table calls
-second-no = verdict second 52 B Own false refl (refl, refl) at-h4
+second-no = verdict second 52 B Own false refl (refl, refl) at-h4 (refl, refl)
 
 -- THE FIELDS
+-- is-a-change: an SCX that is accepted
+pub is-a-change-speaks : calls 30 .ask ≡ AskScx 2 2 0 2 7
+unfolding calls
+is-a-change-speaks = refl
+
 -- once: after the effect the owner comes to its own H7
 pub once-speaks : Effect next table calls first 44 × During next table calls first 57 × Steps next table calls 57 A
     × (place next table calls 57 A ≡ H7 1 Own)
@@ -91,7 +96,7 @@ unfolding computed table calls
 alters-its-field-speaks = (effected, refl, refl)
 
 -- untouched: two records, each with its own linked read
-pub untouched-speaks : Effect next table calls first 44 × Read next table calls first 1 19 × Read next table calls first 0 9
+pub untouched-speaks : Effect next table calls first 44 × LinkedRead next table calls first 1 19 × LinkedRead next table calls first 0 9
 untouched-speaks = (effected, first-read-1, first-read-0)
 
 -- closed: 0 is closed, and B still tries to take hold of it and to read it
@@ -102,13 +107,10 @@ pub closed-speaks : Effect next table calls first 44 × Closes next table calls 
 unfolding computed table calls
 closed-speaks = (effected, (1, ltb-true 1 2 refl, refl, refl), refl, refl, refl, refl)
 
--- by-an-effect, of-one-change: a cell alters
+-- by-an-effect: a cell alters
 pub by-an-effect-speaks : (1 < table .n) × (cell next table calls 45 1 2 ≢ cell next table calls 44 1 2)
 unfolding computed table calls
 by-an-effect-speaks = (ltb-true 1 2 refl, effected .alters)
-
-pub of-one-change-speaks : Effect next table calls first 44
-of-one-change-speaks = effected
 
 -- agree, yes-after: helper and owner finish the same change
 pub agree-speaks : Verdict next table calls first 45 true × Verdict next table calls first 58 true
@@ -117,31 +119,24 @@ agree-speaks = (helper-yes, owner-yes)
 pub yes-after-speaks : Verdict next table calls first 45 true × (44 < 45) × Effect next table calls first 44
 yes-after-speaks = (helper-yes, ltb-true 44 45 refl, effected)
 
--- finishes: a step that goes on; one that ends a help, and the LLX goes on; one that ends an SCX
-abbrev pub Working : ℕ → ℕ → ℕ → After → Type 0
-Working k t u after = Steps next table calls k t × Works u after (place next table calls k t)
-
-pub finishes-speaks : (Working 44 B 1 (AtL8 1 false) × Works 1 (AtL8 1 false) (place next table calls 45 B))
-    × (Working 45 B 1 (AtL8 1 false) × (place next table calls 46 B ≡ leads (AtL8 1 false) true))
-    × (Working 58 A 1 Own × (said next table calls 58 ≡ answers Own true))
-    × (Working 52 B 2 Own × (said next table calls 52 ≡ answers Own false))
+-- finishes: a step that goes on; one that ends a help, and the LLX goes on; one that ends an SCX; and a call of another task
+pub finishes-speaks : (Works 1 (AtL8 1 false) (place next table calls 44 B) × Works 1 (AtL8 1 false) (place next table calls 45 B))
+    × (Works 1 (AtL8 1 false) (place next table calls 45 B) × (place next table calls 46 B ≡ leads (AtL8 1 false) true))
+    × (Works 1 Own (place next table calls 58 A) × (said next table calls 58 ≡ answers Own true))
+    × (Works 2 Own (place next table calls 52 B) × (said next table calls 52 ≡ answers Own false))
+    × (Works 1 Own (place next table calls 44 A) × Works 1 Own (place next table calls 45 A))
 unfolding computed table calls
-finishes-speaks = (
-  ((steps next table calls 44 B (refl, refl), h7), h8),
-  ((steps next table calls 45 B (refl, refl), h8), refl),
-  ((steps next table calls 58 A (refl, refl), h8), refl),
-  ((steps next table calls 52 B (refl, refl), h4), refl),
-)
+finishes-speaks = ((h7, h8), (h8, refl), (h8, refl), (h4, refl), (h1, h1))
 
--- works: A is busy with its change while B makes its own and ends it
-pub works-speaks : Going next table calls (first .start) (first .task) 58
+-- not-taken: when B's change starts, A works on its own
+pub not-taken-speaks : Works 1 Own (place next table calls (second .start) A) × (second .number ≡ 2)
 unfolding computed table calls
-works-speaks = busy first 58 refl refl
+not-taken-speaks = (h1, refl)
 
 pub no-never-speaks : Verdict next table calls second 52 false
 no-never-speaks = second-no
 
 -- no-because: A's change took hold of 0 after B's linked read of it
-pub no-because-speaks : Verdict next table calls second 52 false × Read next table calls second 0 29 × (29 < 41) × (41 < 52)
+pub no-because-speaks : Verdict next table calls second 52 false × LinkedRead next table calls second 0 29 × (29 < 41) × (41 < 52)
     × Holds next table calls first 41 0
 no-because-speaks = (second-no, second-read-0, ltb-true 29 41 refl, ltb-true 41 52 refl, held)

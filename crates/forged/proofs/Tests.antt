@@ -60,7 +60,7 @@ sameList [] (y ∷ ys) = false
 sameList (x ∷ xs) [] = false
 sameList (x ∷ xs) (y ∷ ys) = both (sameCell x y) (sameList xs ys)
 
-same-list : (a b : List Cell) → sameList a b ≡ true → a ≡ b
+pub same-list : (a b : List Cell) → sameList a b ≡ true → a ≡ b
 unfolding sameList
 same-list [] [] h = refl
 same-list [] (y ∷ ys) h = absurd (false≢true h)

@@ -14,7 +14,7 @@ pub yes-by-H3 : (c : Change next table run-5) × Verdict next table run-5 c 34 t
 unfolding computed table run-5
 yes-by-H3 =
     let c = begun next table run-5 20 A 2 (0 ∷ 1 ∷ 0 ∷ 0 ∷ []) 0 0 0 7 1 refl refl refl in
-    (c, verdict c 34 B (AtL8 0 false) true refl (refl, refl) at-h8, verdict c 54 A Own true refl (refl, refl) (at-h3 refl))
+    (c, verdict c 34 B (AtL8 0 false) true refl (refl, refl) at-h8 (refl, refl), verdict c 54 A Own true refl (refl, refl) (at-h3 refl) (refl, refl))
 
 -- B changes 1 before A, with <0, 1>, gets there: B's LLX of 0 brings no from L8, and so does A
 unfoldable pub doomed : ℕ → Call
@@ -32,7 +32,7 @@ pub no-of-both : (c : Change next table doomed) × Verdict next table doomed c 4
 unfolding computed table doomed
 no-of-both =
     let c = begun next table doomed 30 A 2 (0 ∷ 1 ∷ 0 ∷ 0 ∷ []) 0 0 0 7 1 refl refl refl in
-    (c, verdict c 49 B (AtL8 0 false) false refl (refl, refl) at-h4, verdict c 53 A Own false refl (refl, refl) at-h4)
+    (c, verdict c 49 B (AtL8 0 false) false refl (refl, refl) at-h4 (refl, refl), verdict c 53 A Own false refl (refl, refl) at-h4 (refl, refl))
 
 -- A marks 0 and stops: B's LLX has m1 yes, helps, and answers Finalized
 unfoldable pub marked : ℕ → Call
@@ -43,7 +43,7 @@ pub yes-with-m1 : (c : Change next table marked) × Verdict next table marked c 
 unfolding computed table marked
 yes-with-m1 =
     let c = begun next table marked 10 A 1 (just 0) 1 0 0 7 1 refl refl refl in
-    (c, verdict c 26 B (AtL8 0 true) true refl (refl, refl) at-h8, refl)
+    (c, verdict c 26 B (AtL8 0 true) true refl (refl, refl) at-h8 (refl, refl), refl)
 
 -- B's LLX is overtaken by A's first change and meets the second at L11: it helps that and answers Fail
 unfoldable pub overtaken-twice : ℕ → Call
@@ -62,4 +62,4 @@ pub yes-at-L11 : (c : Change next table overtaken-twice) × Verdict next table o
 unfolding computed table overtaken-twice
 yes-at-L11 =
     let c = begun next table overtaken-twice 30 A 1 (just 0) 0 0 0 9 2 refl refl refl in
-    (c, verdict c 40 B AtL11 true refl (refl, refl) at-h8, refl)
+    (c, verdict c 40 B AtL11 true refl (refl, refl) at-h8 (refl, refl), refl)

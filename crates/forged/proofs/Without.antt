@@ -6,15 +6,15 @@ use mathlib.Core.Logic.{_≢_}
 use mathlib.Core.Bool.{Bool, true, false, not, true≢false, false≢true}
 use lib.Dec.{eqb, leb}
 use borrow.Author.Tests.{eqb-true, eq-eqb, ne-eqb, leb-true, leb-false}
-use Rattle.rules.specs.Words.{Cell, After, Place, H7, Machine, Call, Out}
+use Rattle.rules.specs.Words.{Cell, After, Own, Place, H7, No, Machine, Call, Out}
 use Rattle.table.specs.Table.{pick, recordAt, taskAt, sameCell}
 use Rattle.rules.specs.Claim.{both, allBelow}
 use Rattle.rules.proofs.Exact.{both-on, all-is}
 use Rattle.rules.specs.Access.{changeOf}
 use Rattle.rules.specs.Refuse.{isIdle}
-use Rattle.orders.specs.Demand.{Brings, at-h3, at-h4, at-h8, Works, h1, h2, h3, h4, h5, h6, h7, h8}
-use Rattle.orders.specs.Demand.{before, place, cell, info, Change, named, spot, Effect, Holds, Read, Verdict}
-use Rattle.forged.specs.Places.{isH, isScx}
+use Rattle.orders.specs.Demand.{answers, Brings, at-h3, at-h4, at-h8, Works, h1, h2, h3, h4, h5, h6, h7, h8}
+use Rattle.orders.specs.Demand.{before, said, place, cell, info, Change, named, spot, Effect, Holds, LinkedRead, Verdict}
+use Rattle.forged.specs.Places.{isH, afterOf, isScx}
 use Rattle.forged.proofs.Tests.{same-cell, picked}
 use Rattle.forged.proofs.Through.{scan, scan-is, silent, silent-is}
 use Rattle.forged.proofs.Events.{kept, snaps, snaps-is}
@@ -61,10 +61,11 @@ idle-works-not h8 = refl
 pub idle-works : {u : ℕ} {after : After} {q : Place} → Works u after q → isIdle q ≡ true → ⊥
 idle-works w e = true≢false (sym e ∙ idle-works-not w)
 
-brings-no : {u : ℕ} {after : After} {frozen b : Bool} {q : Place} → Brings u after frozen q b → isH 4 q ≡ true → b ≡ false
-brings-no (at-h3 f) e = absurd (false≢true e)
-brings-no at-h4 e = refl
-brings-no at-h8 e = absurd (false≢true e)
+brings-no : {u : ℕ} {after : After} {frozen b : Bool} {q : Place} → Brings u after frozen q b → isH 4 q ≡ true → afterOf q ≡ Own
+    → answers after b ≡ No
+brings-no (at-h3 f) e o = absurd (false≢true e)
+brings-no at-h4 e o = ap (λ x. answers x false) o
+brings-no at-h8 e o = absurd (false≢true e)
 
 module _ {next : Machine → Call → Out} {m : Machine} {calls : ℕ → Call} where
   -- an effect of c at k comes from its H7
@@ -82,16 +83,20 @@ module _ {next : Machine → Call → Out} {m : Machine} {calls : ℕ → Call} 
       (eq-eqb (changeOf (there next m calls j)) (c .number) (ap changeOf (effect-at c j E)))
       (not-kept (cell next m calls (suc j) r (c .field)) (cell next m calls j r (c .field)) (E .alters)))
 
-  pub verdict-no : (c : Change next m calls) (k : ℕ) (b : Bool) → Verdict next m calls c k b
-      → isH 4 (there next m calls k) ≡ true → b ≡ false
-  verdict-no c k b v e = brings-no (v .brings) (subst (λ t. isH 4 (place next m calls k t) ≡ true) (v .steps .by) e)
+  -- the verdict of an SCX at H4 is its answer no
+  pub said-no : (c : Change next m calls) (k : ℕ) (b : Bool) → Verdict next m calls c k b
+      → isH 4 (there next m calls k) ≡ true → afterOf (there next m calls k) ≡ Own → said next m calls k ≡ No
+  said-no c k b v e o =
+      v .ends .1
+      ∙ brings-no (v .brings) (subst (λ t. isH 4 (place next m calls k t) ≡ true) (v .steps .by) e)
+      (subst (λ t. afterOf (place next m calls k t) ≡ Own) (v .steps .by) o)
 
   -- nobody takes hold of a record that c names between the linked read of it and k
   abbrev pub settled : Change next m calls → ℕ → ℕ → Bool
   settled c k i = scan next m calls (unmoved next m calls c k (named next m calls c i)) 0 (c .start) m
 
   pub no-hold : (c : Change next m calls) (k : ℕ) → allBelow (c .n) (settled c k) ≡ true
-      → (d : Change next m calls) (i e h : ℕ) → i < c .n → Read next m calls c (named next m calls c i) e → e < h → h < k
+      → (d : Change next m calls) (i e h : ℕ) → i < c .n → LinkedRead next m calls c (named next m calls c i) e → e < h → h < k
       → Holds next m calls d h (named next m calls c i) → ⊥
   unfolding before
   no-hold c k u d i e h l R l1 l2 H =
@@ -112,7 +117,7 @@ module _ {next : Machine → Call → Out} {m : Machine} {calls : ℕ → Call} 
       (all-is n (only next m calls k) h (d .start) l))
 
   -- a linked read for c ended no later than k, if none ends between k and the start
-  pub read-by : (c : Change next m calls) (r e k : ℕ) → Read next m calls c r e
+  pub read-by : (c : Change next m calls) (r e k : ℕ) → LinkedRead next m calls c r e
       → silent next m calls (snaps next m calls (c .task) r) k (c .start) ≡ true → e ≤ k
   read-by c r e k R h = go (leb e k) refl
     where

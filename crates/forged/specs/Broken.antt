@@ -4,8 +4,8 @@ use Prim.Native.Nat.{ℕ, zero, suc, _+_}
 use mathlib.Core.Bool.{Bool, true, false}
 use lib.Dec.{eqb, ltb}
 use Rattle.rules.specs.Words.{State, InProgress, Committed, Aborted, Cell, Place, H4, H5, H6, H7, H8, Seen, Move}
-use Rattle.rules.specs.Words.{Access, Nothing, Hold, Write, Commit, Machine, Out, Call, OutOfShape}
-use Rattle.table.specs.Table.{pick, cellAt, recordAt, changeAt, taskAt}
+use Rattle.rules.specs.Words.{Access, Nothing, Hold, Write, Commit, Machine, Out, Call, Yes, OutOfShape}
+use Rattle.table.specs.Table.{pick, noCells, cellAt, recordAt, changeAt, taskAt}
 use Rattle.rules.specs.Access.{changeOf, recordOf}
 use Rattle.rules.specs.Perform.{sawBit, sawNumber}
 use Rattle.rules.specs.Resume.{on, verdict, firstFrom}
@@ -57,6 +57,10 @@ marks-late =
 -- THE SHAMS of document 01
 unfoldable pub refuses-all : Machine → Call → Out
 refuses-all m e = refused m OutOfShape
+
+-- yes to every call, the table as it came
+unfoldable pub yes-to-all : Machine → Call → Out
+yes-to-all m e = record { m = m; answer = Yes; cells = noCells }
 
 -- where all is held, not H5 but H4
 unfoldable pub always-aborts : Machine → Call → Out
