@@ -32,7 +32,7 @@ use Rattle.orders.proofs.Untouched.{task-inside}
 use Rattle.orders.proofs.Verdicts.{known-at, live-at, change-at}
 
 -- a place of work names its change, which is not 0, and is not idle
-works-on : (u : ℕ) (after : After) (q : Place) → Works u after q → (changeOf q ≡ u) × (isIdle q ≡ false)
+pub works-on : (u : ℕ) (after : After) (q : Place) → Works u after q → (changeOf q ≡ u) × (isIdle q ≡ false)
 works-on u after q h1 = (refl, refl)
 works-on u after q h2 = (refl, refl)
 works-on u after q h3 = (refl, refl)
