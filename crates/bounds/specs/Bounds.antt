@@ -2,7 +2,7 @@
 -- where R has f records. An undisturbed SCX takes n + f + 3; an undisturbed LLX on an open record nobody holds takes 9." A field for each,
 -- over the runs of demand 3. An operation in progress has made fewer own steps than its bound, so the last of these ends it at the latest.
 -- The theorem is `every-bound` in proofs/Every.antt: Bounds next (the fresh table) calls, for all calls.
-use Prim.Native.Nat.{ℕ, zero, suc, _+_, _*_, _≤_, _<_}
+use Prim.Native.Nat.{ℕ, zero, suc, _+_, _*_, _<_}
 use mathlib.Core.Path.{_≡_}
 use mathlib.Core.Logic.{_↔_, _≢_}
 use mathlib.Core.Bool.{Bool, true, false, _&&_}
