@@ -1,22 +1,31 @@
--- THE OWN-STEP BOUNDS hold of every run of which what is `Known` is known.
+-- THE OWN-STEP BOUNDS hold of any calls from any fresh table.
 use Prim.Native.Nat.{ℕ}
-use Rattle.clauses.proofs.Words.{Machine, Call}
+use mathlib.Core.Path.{_≡_}
+use mathlib.Core.Bool.{true}
+use mathlib.Core.List.{List}
+use lib.ListN.{length}
+use Rattle.table.specs.Fresh.{inRange, fresh}
 use Rattle.rules.specs.Next.{next}
+use Rattle.rules.specs.Words.{Machine, Call}
+use Rattle.orders.proofs.Run.{Run}
+use Rattle.orders.proofs.FromFresh.{run}
 use Rattle.bounds.specs.Bounds.{Bounds}
-use Rattle.bounds.proofs.Along.{Known}
 use Rattle.bounds.proofs.Most.{llx-most, vlx-most, read-most, scx-most}
-use Rattle.bounds.proofs.AloneScx.{scx-exactly, scx-answers}
-use Rattle.bounds.proofs.AloneLlx.{llx-exactly, llx-answers}
+use Rattle.bounds.proofs.UndisturbedScx.{scx-takes}
+use Rattle.bounds.proofs.UndisturbedLlx.{llx-takes}
 
-pub every-bound : (m : Machine) (calls : ℕ → Call) → Known m calls → Bounds next m calls
-every-bound m calls known =
+bounds : (m : Machine) (calls : ℕ → Call) → Run m calls → Bounds next m calls
+bounds m calls R =
     record {
-      llx = llx-most m calls known;
-      vlx = vlx-most m calls known;
-      read = read-most m calls known;
-      scx = scx-most m calls known;
-      undisturbed-scx = λ c k l U. scx-exactly m calls known c k U l;
-      answers-yes = λ c k U. scx-answers m calls known c k U;
-      undisturbed-llx = λ s t r k S l Q. llx-exactly m calls known s t r k S Q l;
-      answers-snapshot = λ s t r k S Q. llx-answers m calls known s t r k S Q;
+      llx = llx-most m calls R;
+      vlx = vlx-most m calls R;
+      read = read-most m calls R;
+      scx = scx-most m calls R;
+      undisturbed-scx = λ c k l U. scx-takes m calls R c k U .0 l;
+      answers-yes = λ c k U. scx-takes m calls R c k U .1;
+      undisturbed-llx = λ s t r k B l U. llx-takes m calls R s t r k B U .0 l;
+      answers-snapshot = λ s t r k B U. llx-takes m calls R s t r k B U .1;
     }
+
+pub every-bound : (p n : ℕ) (values : List ℕ) → inRange p n (length values) ≡ true → (calls : ℕ → Call) → Bounds next (fresh p n values .m) calls
+every-bound p n values ok calls = bounds (fresh p n values .m) calls (run p n values ok calls)

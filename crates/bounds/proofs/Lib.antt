@@ -1,12 +1,10 @@
+pub mod Marks
 pub mod Rank
 pub mod Lower
-pub mod Exact
-pub mod Count
-pub mod Own
 pub mod Along
-pub mod Begun
+pub mod Count
 pub mod Most
-pub mod AloneLlx
-pub mod AloneScx
+pub mod UndisturbedLlx
+pub mod UndisturbedScx
 pub mod Every
 pub mod Speaks

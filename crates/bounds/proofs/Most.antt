@@ -1,88 +1,90 @@
 -- "LLX 39, VLX n, READ 1, SCX 2n + f + 3": along a run the rank falls with each own step and never rises, so its value at the start
 -- bounds them.
-use Prim.Native.Nat.{ℕ, suc, _+_, _*_, _≤_, _<_}
-use mathlib.Core.Path.{_≡_, refl, sym, ap, _∙_, subst}
-use mathlib.Core.Bool.{true, false}
-use mathlib.Core.Logic.{_≢_, ⊎-elim}
+use Prim.Native.Nat.{ℕ, suc, _+_, _-_, _*_, _≤_, _<_}
+use mathlib.Core.Path.{_≡_, ap, _∙_, subst}
+use mathlib.Core.Logic.{inr, _≢_}
 use native.Mathlib.Omega.{arith}
 use native.Mathlib.Nat.{le-refl}
-use Rattle.clauses.proofs.Words.{Machine, Call, Ask, AskLlx, AskVlx, AskRead, Place, Idle, H1, Own}
-use Rattle.table.specs.Table.{changeAt, taskAt, linkAt}
-use Rattle.rules.specs.Access.{changeOf, recordOf}
-use Rattle.rules.specs.Perform.{seen}
-use Rattle.rules.specs.Step.{accessAt}
-use Rattle.rules.specs.Start.{places}
+use Rattle.rules.specs.Words.{Machine, Call, Ask, AskLlx, AskVlx, AskRead, Place, Idle, L1, H1, Vlx, Read, Own, Yes, Change, Seen}
+use Rattle.table.specs.Table.{taskAt}
+use Rattle.rules.specs.Access.{changeOf}
+use Rattle.rules.specs.Resume.{resume}
 use Rattle.rules.specs.Next.{next}
 use Rattle.clauses.proofs.Memory.{Terms, Shared, apply}
-use Rattle.clauses.proofs.Steps.{actAt}
-use Rattle.orders.specs.Demand.{before, place, Change}
-use Rattle.orders.proofs.View.{shared, view, did, reading}
-use Rattle.bounds.specs.Bounds.{size, isStep, stepOf, Starts, own}
-use Rattle.orders.specs.Demand.{Going}
-use Rattle.bounds.proofs.Rank.{all, rank, keeps}
+use Rattle.clauses.proofs.Steps.{termsOf, actAt, Saw}
+use Rattle.clauses.proofs.Course.{Course, X, S, history, fine, turn, started}
+use Rattle.orders.specs.Demand.{before, place, Going}
+use Rattle.orders.specs.Demand.{Change as Asked}
+use Rattle.orders.proofs.Calls.{Passes, obeyed}
+use Rattle.orders.proofs.Run.{Run, course, place-known, works-live}
+use Rattle.orders.proofs.Changes.{terms, makes}
+use Rattle.orders.proofs.Untouched.{task-inside}
+use Rattle.bounds.specs.Bounds.{size, Starts, own}
+use Rattle.bounds.proofs.Marks.{all, all-bits}
+use Rattle.bounds.proofs.Rank.{rank, keeps}
 use Rattle.bounds.proofs.Lower.{lower}
+use Rattle.bounds.proofs.Along.{passes, begun, not-taken, resumes}
 use Rattle.bounds.proofs.Count.{at-most}
-use Rattle.bounds.proofs.Own.{step-not, firstOf}
-use Rattle.bounds.proofs.Begun.{is-task, first-place, asked, terms-are}
-use Rattle.bounds.proofs.Along.{Known, busy-is, inside, knows, live, move, stepped, own-else, by-another, not-taken}
 
 rank-scx : (S : Shared) (u : ℕ) (c : Terms) → S .terms u ≡ c → rank S (H1 u 0 Own) ≡ 2 * c .n + all c + 3
 unfolding rank
 rank-scx S u c e = rw e (omega arith)
 
-module _ (m : Machine) (calls : ℕ → Call) (known : Known m calls) where
+module _ (m : Machine) (calls : ℕ → Call) (R : Run m calls) where
   abbrev M : ℕ → Machine
   M k = before next m calls k
+
+  abbrev C : Course
+  C = course m calls R
 
   module _ (t : ℕ) (tl : t < m .p) where
     abbrev at : ℕ → Place
     at k = place next m calls k t
 
-    abbrev left : ℕ → ℕ
-    left k = rank (shared (M k)) (at k)
+    lowers : (k : ℕ) → at k ≢ Idle → (s : Seen) (ch : Change) (linked : ℕ) → termsOf ch ≡ S C k .terms (changeOf (at k)) → Saw (S C k) s (at k)
+        → rank (apply (actAt (S C k) (at k)) (S C k)) (resume (at k) s ch linked .place) < rank (S C k) (at k)
+    lowers k b s ch linked e w = lower (X C k) (history C k) (fine C k) (taskAt (M k) t .cells) s ch linked (at k) e w
+        (works-live m calls R k t tl) (place-known m calls R k t tl) b
 
-    lowers : (k : ℕ) → at k ≢ Idle → rank (apply (actAt (shared (M k)) (at k)) (shared (M k))) (move m calls known t tl k .place) < left k
-    lowers k b = lower (view (M k)) (known .history k) (known .clauses k) (taskAt (M k) t .cells) (seen (accessAt (M k) t) (M k))
-        (changeAt (M k) (changeOf (at k))) (linkAt (M k) t (recordOf (accessAt (M k) t)) .info) (at k) refl
-        (known .saw k t (inside m calls known t tl k)) (live m calls known t tl k) (knows m calls known t tl k) (busy-is (at k) b)
+    stays : (k : ℕ) → rank (S C (suc k)) (at k) ≤ rank (S C k) (at k)
+    stays k = rw (turn C k .shared) (keeps (S C k) (history C k) (C .who k) (C .reads k) (C .act k) (turn C k .guard) (at k)
+        (not-taken C k (changeOf (at k)) (works-live m calls R k t tl)))
 
-    falls : (k : ℕ) → at k ≢ Idle → stepOf t (calls k) ≡ true → left (suc k) < left k
-    falls k b h = let s = stepped m calls known t tl k b h in rw (s .goes, s .does) (lowers k b)
+    most : (s k : ℕ) → Going next m calls s t k → own next m calls s t k < rank (S C (suc s)) (at (suc s))
+    most s k g = at-most m calls R s t tl (λ Z q n. rank Z q ≤ n) Yes k _ (le-refl _)
+        (λ k n g h s ch linked e w. let l = lowers k (g .busy k (g .later) (le-refl k)) s ch linked e w in inr (n - 1, omega arith, omega arith))
+        (λ k n g l h y. omega (arith, stays k))
+        (λ n h. resumes m calls R t tl k (λ v. 0 < n)
+        (λ s ch linked e w. omega (arith, lowers k (g .busy k (g .later) (le-refl k)) s ch linked e w))) g
 
-    stays : (k : ℕ) → at k ≢ Idle → stepOf t (calls k) ≡ false → left (suc k) ≤ left k
-    stays k b h = ⊎-elim
-        (λ (n : calls k .task ≢ t). rw (by-another m calls known t tl k n, known .turn k .shared)
-        (keeps (shared (M k)) (known .history k) (calls k .task) (reading (M k) (calls k)) (did (M k) (calls k)) (known .turn k .guard)
-        (at k) (not-taken m calls known t tl k)))
-        (λ (z : (calls k .task ≡ t) × (isStep (calls k .ask) ≡ false)).
-        subst (λ (x : Machine). rank (shared x) (taskAt x t .place) ≤ left k) (sym (own-else m calls known t tl k b (z .0) (z .1))) (le-refl _))
-        (step-not t (calls k) h)
-
-    most : (s k : ℕ) → Going next m calls s t k → own next m calls s t k < left (suc s)
-    most s k g = at-most next m calls s t left (λ k l b. omega (arith, lowers k b)) (λ k l b h. falls k b h) (λ k l b h. stays k b h) k g
-
-  -- from an accepted start on, by the rank of the first place
-  from-start : (s t : ℕ) (ask : Ask) → Starts next m calls s t ask → isStep ask ≡ false → (k : ℕ) → Going next m calls s t k
-      → own next m calls s t k < rank (shared (M (suc s))) (firstOf (M s) ask)
-  from-start s t ask S e k g =
-      subst (λ q. own next m calls s t k < rank (shared (M (suc s))) q) (first-place m calls known s t ask S e)
-      (most t (is-task m calls known s t ask S) s k g)
+  -- from an accepted start on, by the rank of the place where it leads
+  from-start : (s t : ℕ) (ask : Ask) → Starts next m calls s t ask → (q : Place)
+      → (Passes (M s) (calls s) ask → (calls s .task < M s .p) × (taskAt (M (suc s)) (calls s .task) .place ≡ q))
+      → (k : ℕ) → Going next m calls s t k → own next m calls s t k < rank (S C (suc s)) q
+  from-start s t ask B q h k g =
+      let P = passes m calls R s t ask B in
+      let (l, e) = begun m calls R s t ask B q (h P .0) (h P .1) in
+      subst (λ q. own next m calls s t k < rank (S C (suc s)) q) e (most t l s k g)
 
   pub llx-most : (s t r k : ℕ) → Starts next m calls s t (AskLlx r) → Going next m calls s t k → own next m calls s t k < 39
   unfolding rank
-  llx-most s t r k S g = from-start s t (AskLlx r) S refl k g
+  llx-most s t r k B = from-start s t (AskLlx r) B (L1 r) (λ P. (obeyed (M s) (calls s) _ P .0, R .llx-place s r P)) k
 
   pub vlx-most : (s t n k : ℕ) → Starts next m calls s t (AskVlx n) → Going next m calls s t k → own next m calls s t k < n
   unfolding rank
-  vlx-most s t n k S g = omega (arith, from-start s t (AskVlx n) S refl k g)
+  vlx-most s t n k B g =
+      let h = from-start s t (AskVlx n) B (Vlx n 0) (λ P. (obeyed (M s) (calls s) _ P .0, R .vlx-place s n P)) k g in
+      omega arith
 
   pub read-most : (s t r f k : ℕ) → Starts next m calls s t (AskRead r f) → Going next m calls s t k → own next m calls s t k < 1
   unfolding rank
-  read-most s t r f k S g = from-start s t (AskRead r f) S refl k g
+  read-most s t r f k B = from-start s t (AskRead r f) B (Read r f) (λ P. (obeyed (M s) (calls s) _ P .0, R .read-place s r f P)) k
 
-  pub scx-most : (c : Change next m calls) (k : ℕ) → Going next m calls (c .start) (c .task) k
-      → own next m calls (c .start) (c .task) k < 2 * c .n + size (places (c .r)) + 3
+  pub scx-most : (c : Asked next m calls) (k : ℕ) → Going next m calls (c .start) (c .task) k
+      → own next m calls (c .start) (c .task) k < 2 * c .n + size (c .closing) + 3
   scx-most c k g =
       subst (λ x. own next m calls (c .start) (c .task) k < x)
-      (ap (rank (shared (M (suc (c .start))))) (c .takes) ∙ rank-scx (shared (M (suc (c .start)))) (c .number) _ (terms-are m calls known c))
-      (most (c .task) (is-task m calls known (c .start) (c .task) _ (asked m calls known c)) (c .start) k g)
+      (ap (rank (S C (suc (c .start)))) (c .takes)
+      ∙ rank-scx (S C (suc (c .start))) (c .number) _ (started C (c .start) (c .number) (terms m calls R c) (makes m calls R c) .0)
+      ∙ ap (λ f. 2 * c .n + f + 3) (all-bits (c .closing)))
+      (most (c .task) (task-inside m calls R c) (c .start) k g)

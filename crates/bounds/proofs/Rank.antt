@@ -1,36 +1,21 @@
--- RANK: how many own steps a task still has to make at most. No act of another task raises it (each own step lowers it: Lower.antt).
-use Prim.Native.Nat.{ℕ, zero, suc, _+_, _-_, _*_, _≤_}
+-- RANK: how many own steps a task still has to make at most. At a place where it stays no act raises it; each own step lowers it (Lower.antt).
+use Prim.Native.Nat.{ℕ, _+_, _-_, _*_, _≤_}
 use mathlib.Core.Path.{_≡_}
 use mathlib.Core.Bool.{Bool, true, false}
-use mathlib.Core.Logic.{_⊎_, inl, inr, ⊎-elim}
+use mathlib.Core.Logic.{⊎-elim}
 use native.Mathlib.Omega.{arith}
 use native.Mathlib.Nat.{le-refl}
-use Rattle.clauses.proofs.Words.{State, InProgress, Committed, Aborted, After, Own, AtL8, AtL11}
-use Rattle.clauses.proofs.Words.{Place, Idle, L1, L2, L3, L4, L5, L6, L7, L8, L9, L10, L11, H1, H2, H3, H4, H5, H6, H7, H8, Vlx, Read}
+use Rattle.rules.specs.Words.{State, InProgress, Committed, Aborted, After, Own, AtL8, AtL11}
+use Rattle.rules.specs.Words.{Place, Idle, L1, L2, L3, L4, L5, L6, L7, L8, L9, L10, L11, H1, H2, H3, H4, H5, H6, H7, H8, Vlx, Read}
 use Rattle.table.specs.Table.{pick}
 use Rattle.rules.specs.Access.{changeOf}
-use Rattle.clauses.proofs.Memory.{Terms, Shared, Act, apply}
+use Rattle.keeps.proofs.Stores.{picked}
+use Rattle.clauses.proofs.Memory.{Shared, Act, apply}
 use Rattle.clauses.proofs.History.{Ghost, Reading}
 use Rattle.clauses.proofs.Clauses.{Off, Guard}
 use Rattle.clauses.proofs.Events.{CI, AI, st?}
 use Rattle.clauses.proofs.Frame.{same-terms, stay-state}
-
--- how many of the d places from i on are in R
-abbrev pub count : (ℕ → Bool) → ℕ → ℕ → ℕ
-count c i zero = 0
-count c i (suc d) = pick (c i) (suc (count c (suc i) d)) (count c (suc i) d)
-
-pub count-le : (c : ℕ → Bool) (i d : ℕ) → count c i d ≤ d
-count-le c i zero = le-refl 0
-count-le c i (suc d) = go (c i) (count-le c (suc i) d)
-  where
-    go : (b : Bool) → count c (suc i) d ≤ d → pick b (suc (count c (suc i) d)) (count c (suc i) d) ≤ suc d
-    go true h = omega arith
-    go false h = omega arith
-
--- all of R, of which no place is past 3
-abbrev pub all : Terms → ℕ
-all c = count (c .closes) 0 4
+use Rattle.bounds.proofs.Marks.{count, all}
 
 -- the steps that are left after the help
 abbrev pub rest : After → ℕ
@@ -67,20 +52,13 @@ rank S (H8 u after) = 1 + rest after
 rank S (Vlx n i) = n - i
 rank S (Read r f) = 1
 
--- ANOTHER TASK'S ACT does not raise it
+-- AN ACT does not raise it, unless it takes the number that the place names
 module _ (S : Shared) (G : Ghost) (t : ℕ) (k : Reading) (b : Act) (g : Guard S G t b) where
   -- the end of a change lowers what waits for it
   down : (x m n : ℕ) → Off b x → m ≤ n → pick (ended (apply b S .state x)) m n ≤ pick (ended (S .state x)) m n
-  down x m n o h = ⊎-elim (λ (e : S .state x ≡ InProgress). rw e (any (ended (apply b S .state x))))
-      (λ z. rw (stay-state S G t k b g x o (λ q. late z q)) (le-refl _)) (st? (S .state x))
-    where
-      late : (S .state x ≡ Committed) ⊎ (S .state x ≡ Aborted) → S .state x ≡ InProgress → ⊥
-      late (inl c) q = CI c q
-      late (inr a) q = AI a q
-
-      any : (b : Bool) → pick b m n ≤ n
-      any true = h
-      any false = le-refl n
+  down x m n o h = ⊎-elim
+      (λ (e : S .state x ≡ InProgress). rw e (picked (λ y. y ≤ n) (ended (apply b S .state x)) m n (λ _. h) (λ _. le-refl n)))
+      (λ z. rw (stay-state S G t k b g x o (λ q. ⊎-elim (λ c. CI c q) (λ a. AI a q) z)) (le-refl _)) (st? (S .state x))
 
   pub keeps : (q : Place) → Off b (changeOf q) → rank (apply b S) q ≤ rank S q
   unfolding rank

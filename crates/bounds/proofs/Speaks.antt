@@ -6,8 +6,8 @@ use mathlib.Core.Bool.{false}
 use mathlib.Core.List.{List, [], _∷_}
 use lib.ListN.{getD}
 use native.Mathlib.Omega.{arith}
-use Rattle.clauses.proofs.Words.{Machine, Call, Ask, AskLlx, AskScx, AskStep, Idle, H1, H8, L6, Own, Accepted, Snapshot, Yes}
-use Rattle.table.specs.Table.{tabulate, sameCell, linkAt}
+use Rattle.rules.specs.Words.{Machine, Call, Ask, AskLlx, AskScx, AskStep, Aborted, Idle, H1, H8, L6, Own, Accepted, Snapshot, Yes}
+use Rattle.table.specs.Table.{tabulate, sameCell, changeAt, linkAt, stateOf}
 use Rattle.table.specs.Fresh.{freshRecords, freshMachine, fresh}
 use Rattle.rules.specs.Perform.{seen, perform}
 use Rattle.rules.specs.Step.{dropFirst, settle, accessAt, moveAt, step}
@@ -16,7 +16,8 @@ use Rattle.rules.specs.Shape.{shape, inShape}
 use Rattle.rules.specs.Start.{start}
 use Rattle.rules.specs.Refuse.{linkedAt, rulesOf}
 use Rattle.rules.specs.Next.{refused, started, next}
-use Rattle.orders.specs.Demand.{before, said, place, info, Change, named}
+use Rattle.clauses.proofs.Events.{AI}
+use Rattle.orders.specs.Demand.{before, said, place, mark, info, Change, named}
 use Rattle.bounds.specs.Bounds.{own, Starts, UndisturbedScx, UndisturbedLlx}
 
 abbrev asks : List Ask
@@ -28,26 +29,25 @@ calls k = record { task = 0; ask = getD asks k AskStep; list = 0 ∷ 0 ∷ 0 ∷
 abbrev m : Machine
 m = fresh 1 1 (5 ∷ 5 ∷ 5 ∷ 5 ∷ []) .m
 
+-- calls 0 to 9: the LLX starts on an open record that nobody holds, and its 9th own step answers the snapshot
+pub llx-ran : (said next m calls 0 ≡ Accepted) × (mark next m calls 0 0 ≡ false)
+    × (stateOf (info next m calls 0 0) (changeAt (before next m calls 0) (info next m calls 0 0)) ≡ Aborted)
+    × (own next m calls 0 0 9 ≡ 8) × (place next m calls 9 0 ≡ L6 0 false 0) × (said next m calls 9 ≡ Snapshot) × (place next m calls 10 0 ≡ Idle)
+unfolding tabulate freshRecords freshMachine fresh seen perform dropFirst settle accessAt moveAt step both given allBelow shape inShape start linkedAt rulesOf refused started next before own
+llx-ran = (refl, refl, refl, refl, refl, refl, refl)
+
+-- calls 10 to 15: the SCX starts with the info still that of its link, and its 5th own step answers yes
+pub scx-ran : (said next m calls 10 ≡ Accepted) × (place next m calls 11 0 ≡ H1 1 0 Own)
+    × (info next m calls 10 0 ≡ 0) × (linkAt (before next m calls 10) 0 0 .info ≡ 0)
+    × (own next m calls 10 0 15 ≡ 4) × (place next m calls 15 0 ≡ H8 1 Own) × (said next m calls 15 ≡ Yes) × (place next m calls 16 0 ≡ Idle)
+unfolding tabulate sameCell freshRecords freshMachine fresh seen perform dropFirst settle accessAt moveAt step both given allBelow shape inShape start linkedAt rulesOf refused started next before own
+scx-ran = (refl, refl, refl, refl, refl, refl, refl, refl)
+
 pub llx-starts : Starts next m calls 0 0 (AskLlx 0)
-unfolding tabulate freshRecords freshMachine fresh seen perform dropFirst settle accessAt moveAt step both given allBelow shape inShape start linkedAt rulesOf refused started next before
-llx-starts = record { list = 0 ∷ 0 ∷ 0 ∷ 0 ∷ []; asks = refl; accepted = refl }
+llx-starts = record { list = 0 ∷ 0 ∷ 0 ∷ 0 ∷ []; asks = refl; accepted = llx-ran .0 }
 
 pub llx-undisturbed : (k : ℕ) → UndisturbedLlx next m calls 0 0 0 k
-unfolding tabulate freshRecords freshMachine fresh before
-llx-undisturbed k = record {
-  no-mark = refl;
-  not-held = λ e. let z : _≡_ {A = ℕ} 0 1 = cc in absurd (omega arith);
-  untouched = λ j l h n. absurd (n refl);
-}
-
-pub llx-ends : (own next m calls 0 0 9 ≡ 8)
-    × (place next m calls 9 0 ≡ L6 0 false 0) × (said next m calls 9 ≡ Snapshot) × (place next m calls 10 0 ≡ Idle)
-unfolding tabulate freshRecords freshMachine fresh seen perform dropFirst settle accessAt moveAt step both given allBelow shape inShape start linkedAt rulesOf refused started next before own
-llx-ends = (refl, refl, refl, refl)
-
-pub scx-starts : (said next m calls 10 ≡ Accepted) × (place next m calls 11 0 ≡ H1 1 0 Own)
-unfolding tabulate sameCell freshRecords freshMachine fresh seen perform dropFirst settle accessAt moveAt step both given allBelow shape inShape start linkedAt rulesOf refused started next before
-scx-starts = (refl, refl)
+llx-undisturbed k = record { no-mark = llx-ran .1; not-held = λ e. AI (llx-ran .2) e; untouched = λ j l h n. absurd (n refl) }
 
 abbrev pub change : Change next m calls
 change =
@@ -56,30 +56,20 @@ change =
       task = 0;
       n = 1;
       list = 0 ∷ 0 ∷ 0 ∷ 0 ∷ [];
-      r = 1;
+      closing = 1;
       written = 0;
       field = 0;
       new = 7;
       number = 1;
       asks = refl;
-      accepted = scx-starts .0;
-      takes = scx-starts .1;
+      accepted = scx-ran .0;
+      takes = scx-ran .1;
     }
 
--- neither has been altered since the table was made
-both-0 : (info next m calls 10 0 ≡ 0) × (linkAt (before next m calls 10) 0 0 .info ≡ 0)
-unfolding tabulate sameCell freshRecords freshMachine fresh seen perform dropFirst settle accessAt moveAt step both given allBelow shape inShape start linkedAt rulesOf refused started next before
-both-0 = (refl, refl)
-
-infos : (i : ℕ) → i < 1
+linked : (i : ℕ) → i < 1
     → info next m calls 10 (named next m calls change i) ≡ linkAt (before next m calls 10) 0 (named next m calls change i) .info
-infos zero h = both-0 .0 ∙ sym (both-0 .1)
-infos (suc i) h = absurd (omega arith)
+linked zero h = scx-ran .2 ∙ sym (scx-ran .3)
+linked (suc i) h = absurd (omega arith)
 
 pub scx-undisturbed : (k : ℕ) → UndisturbedScx next m calls change k
-scx-undisturbed k = record { linked = infos; untouched = λ j l h n i q. absurd (n refl) }
-
-pub scx-ends : (own next m calls 10 0 15 ≡ 4)
-    × (place next m calls 15 0 ≡ H8 1 Own) × (said next m calls 15 ≡ Yes) × (place next m calls 16 0 ≡ Idle)
-unfolding tabulate sameCell freshRecords freshMachine fresh seen perform dropFirst settle accessAt moveAt step both given allBelow shape inShape start linkedAt rulesOf refused started next before own
-scx-ends = (refl, refl, refl, refl)
+scx-undisturbed k = record { linked = linked; untouched = λ j l h n i q. absurd (n refl) }

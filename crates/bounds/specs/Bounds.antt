@@ -2,28 +2,19 @@
 -- where R has f records. An undisturbed SCX takes n + f + 3; an undisturbed LLX on an open record nobody holds takes 9." A field for each,
 -- over the runs of demand 3. An operation in progress has made fewer own steps than its bound, so the last of these ends it at the latest.
 -- The theorem is `every-bound` in proofs/Every.antt: Bounds next (the fresh table) calls, for all calls.
-use Prim.Native.Nat.{ℕ, zero, suc, _+_, _*_, _≤_, _<_}
+use Prim.Native.Nat.{ℕ, zero, suc, _+_, _*_, _/_, _%_, _<_}
 use mathlib.Core.Path.{_≡_}
 use mathlib.Core.Logic.{_↔_, _≢_}
 use mathlib.Core.Bool.{Bool, true, false, _&&_}
-use mathlib.Core.List.{List, [], _∷_}
+use mathlib.Core.List.{List}
 use lib.Dec.{eqb, ltb}
-use Rattle.table.specs.declared.State.the-variants.{InProgress}
-use Rattle.table.specs.declared.Place.the-variants.{Idle}
-use Rattle.table.specs.declared.Machine.{Machine}
-use Rattle.table.specs.declared.Ask.{Ask}
-use Rattle.table.specs.declared.Ask.the-variants.{Llx as AskLlx, Scx as AskScx, Vlx as AskVlx, Read as AskRead, Step as AskStep}
-use Rattle.table.specs.declared.Call.{Call}
-use Rattle.table.specs.declared.Answer.the-variants.{Accepted, Snapshot, Yes}
-use Rattle.table.specs.declared.Out.{Out}
+use Rattle.rules.specs.Words.{InProgress, Idle, Machine, Ask, AskLlx, AskScx, AskVlx, AskRead, AskStep, Call, Accepted, Snapshot, Yes, Out}
 use Rattle.table.specs.Table.{pick, changeAt, linkAt, stateOf}
-use Rattle.rules.specs.Start.{places}
 use Rattle.orders.specs.Demand.{before, said, place, mark, info, Change, named, Going}
 
--- how many places are in R
-abbrev pub size : List Bool → ℕ
-size [] = 0
-size (b ∷ bs) = pick b (suc (size bs)) (size bs)
+-- how many records R has: the bits of places 0 to 3
+abbrev pub size : ℕ → ℕ
+size r = r % 2 + r / 2 % 2 + r / 4 % 2 + r / 8 % 2
 
 -- the call is a STEP, of task t
 abbrev pub isStep : Ask → Bool
@@ -69,10 +60,10 @@ module _ (next : Machine → Call → Out) (m : Machine) (calls : ℕ → Call) 
     pub vlx : (s t n k : ℕ) → Starts s t (AskVlx n) → Going next m calls s t k → own s t k < n
     pub read : (s t r f k : ℕ) → Starts s t (AskRead r f) → Going next m calls s t k → own s t k < 1
     pub scx : (c : Change next m calls) (k : ℕ) → Going next m calls (c .start) (c .task) k
-        → own (c .start) (c .task) k < 2 * c .n + size (places (c .r)) + 3
+        → own (c .start) (c .task) k < 2 * c .n + size (c .closing) + 3
     -- "An undisturbed SCX takes n + f + 3", and answers yes
     pub undisturbed-scx : (c : Change next m calls) (k : ℕ) → c .start < k → UndisturbedScx c k
-        → Going next m calls (c .start) (c .task) k ↔ own (c .start) (c .task) k < c .n + size (places (c .r)) + 3
+        → Going next m calls (c .start) (c .task) k ↔ own (c .start) (c .task) k < c .n + size (c .closing) + 3
     pub answers-yes : (c : Change next m calls) (k : ℕ) → UndisturbedScx c k → Going next m calls (c .start) (c .task) k
         → place next m calls (suc k) (c .task) ≡ Idle → said next m calls k ≡ Yes
     -- "an undisturbed LLX on an open record nobody holds takes 9", and answers the snapshot

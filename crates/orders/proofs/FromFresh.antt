@@ -36,7 +36,7 @@ use Rattle.orders.specs.Demand.{before}
 use Rattle.orders.proofs.View.{taskIn, linkIn, view}
 use Rattle.orders.proofs.Number.{info-known, stamp-known, live-known}
 use Rattle.orders.proofs.Linked.{stores}
-use Rattle.orders.proofs.Settled.{steps-to, scx-starts}
+use Rattle.orders.proofs.Settled.{steps-to, llx-starts, scx-starts, vlx-starts, read-starts}
 use Rattle.orders.proofs.Calls.{Passes, next-is, obeyed}
 use Rattle.orders.proofs.Run.{Run, task-in}
 use Rattle.orders.proofs.Turns.{turn-of}
@@ -167,12 +167,13 @@ module _ (p n : ℕ) (values : List ℕ) (ok : inRange p n (length values) ≡ t
 
     -- where a task's own call leaves it
     place-after : (k : ℕ) (ask : Ask) → Passes (M k) (calls k) ask → calls k .task < M k .p
-        → taskAt (M (suc k)) (calls k .task) .place ≡ taskIn (accepted (M k) (calls k .task) ask (calls k .list) .m) (calls k .task) .place
+        → (x : Task) → taskIn (accepted (M k) (calls k .task) ask (calls k .list) .m) (calls k .task) ≡ x
+        → taskAt (M (suc k)) (calls k .task) .place ≡ x .place
     unfolding before
-    place-after k ask P h =
+    place-after k ask P h x e =
         let s = subst (λ q. calls k .task < q) (sym (same-counts (M k) (calls k) .0)) h in
-        ap (λ (x : Task). x .place) (sym (task-in (next (M k) (calls k) .m) (calls k .task) s))
-        ∙ ap (λ (o : Out). taskIn (o .m) (calls k .task) .place) (next-is (M k) (calls k) ask P)
+        ap (λ (x : Task). x .place) (sym (task-in (next (M k) (calls k) .m) (calls k .task) s)
+        ∙ ap (λ (o : Out). taskIn (o .m) (calls k .task)) (next-is (M k) (calls k) ask P) ∙ e)
 
     snapshots : (k : ℕ) → Passes (M k) (calls k) AskStep → moveAt (M k) (calls k .task) .store ≡ true
         → linkIn (M (suc k)) (calls k .task) (recordOf (accessAt (M k) (calls k .task))) .cells ≡ next (M k) (calls k) .cells
@@ -198,9 +199,14 @@ module _ (p n : ℕ) (values : List ℕ) (ok : inRange p n (length values) ≡ t
       no-changes = nobody;
       no-links = unlinked;
       turns = λ k G K. turn-of (M k) (fine (M k) (in-shape k)) (sized k) G K (calls k);
-      step-place = λ k P. let h = obeyed (M k) (calls k) AskStep P .0 in
-          place-after k AskStep P h ∙ ap (λ (x : Task). x .place) (steps-to (M k) (fine (M k) (in-shape k)) (sized k) (calls k .task) h);
+      step-place = λ k P. let h = obeyed (M k) (calls k) _ P .0 in
+          place-after k _ P h _ (steps-to (M k) (fine (M k) (in-shape k)) (sized k) (calls k .task) h);
       scx-place = λ k n r written field new P. let h = obeyed (M k) (calls k) _ P .0 in
-          place-after k _ P h
-          ∙ ap (λ (x : Task). x .place) (scx-starts (M k) (fine (M k) (in-shape k)) (sized k) (calls k .task) h n r written field new (calls k .list));
+          place-after k _ P h _ (scx-starts (M k) (fine (M k) (in-shape k)) (sized k) (calls k .task) h n r written field new (calls k .list));
+      llx-place = λ k r P. let h = obeyed (M k) (calls k) _ P .0 in
+          place-after k _ P h _ (llx-starts (M k) (fine (M k) (in-shape k)) (sized k) (calls k .task) h r (calls k .list));
+      vlx-place = λ k n P. let h = obeyed (M k) (calls k) _ P .0 in
+          place-after k _ P h _ (vlx-starts (M k) (fine (M k) (in-shape k)) (sized k) (calls k .task) h n (calls k .list));
+      read-place = λ k r f P. let h = obeyed (M k) (calls k) _ P .0 in
+          place-after k _ P h _ (read-starts (M k) (fine (M k) (in-shape k)) (sized k) (calls k .task) h r f (calls k .list));
     }

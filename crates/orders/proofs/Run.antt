@@ -1,20 +1,21 @@
 -- A run whose tables are in shape and whose calls are turns is a course of the clauses.
 use Prim.Native.Nat.{ℕ, suc, _+_, _≤_, _<_}
-use mathlib.Core.Path.{_≡_, refl}
+use mathlib.Core.Path.{_≡_, refl, sym, ap, subst}
+use mathlib.Core.Logic.{inr, _≢_}
 use mathlib.Core.Bool.{true, false}
 use borrow.Author.Tests.{lt-ltb}
-use Rattle.rules.specs.Words.{Machine, Own, Idle, H1, AskScx, AskStep, Call}
+use Rattle.rules.specs.Words.{Machine, Task, Own, Idle, L1, H1, Vlx, Read, AskLlx, AskScx, AskVlx, AskRead, AskStep, Call}
 use Rattle.table.specs.Table.{recordAt, taskAt, linkAt}
-use Rattle.rules.specs.Access.{recordOf}
+use Rattle.rules.specs.Access.{changeOf, recordOf}
 use Rattle.rules.specs.Step.{accessAt, moveAt}
 use Rattle.rules.specs.Next.{next}
 use Rattle.keeps.proofs.Fine.{Fine}
 use Rattle.clauses.proofs.History.{Ghost, none-yet}
-use Rattle.clauses.proofs.Clauses.{Live}
+use Rattle.clauses.proofs.Clauses.{Live, At}
 use Rattle.clauses.proofs.Clauses.{Fine as Clauses}
 use Rattle.clauses.proofs.Turn.{Turn}
-use Rattle.clauses.proofs.Course.{Course}
-use Rattle.orders.specs.Demand.{before}
+use Rattle.clauses.proofs.Course.{Course, X, S, history, fine}
+use Rattle.orders.specs.Demand.{before, place}
 use Rattle.orders.proofs.View.{recordIn, taskIn, linkIn, view, did, reading}
 use Rattle.orders.proofs.Calls.{Passes}
 
@@ -33,11 +34,15 @@ pub record Run (m : Machine) (calls : ℕ → Call) : Type 0 where
   pub snapshots : (k : ℕ) → Passes (before next m calls k) (calls k) AskStep → moveAt (before next m calls k) (calls k .task) .store ≡ true
       → linkIn (before next m calls (suc k)) (calls k .task) (recordOf (accessAt (before next m calls k) (calls k .task))) .cells
       ≡ next (before next m calls k) (calls k) .cells
-  -- where a step and the start of an SCX lead
+  -- where a step and each start lead
   pub step-place : (k : ℕ) → Passes (before next m calls k) (calls k) AskStep
       → taskAt (before next m calls (suc k)) (calls k .task) .place ≡ moveAt (before next m calls k) (calls k .task) .place
   pub scx-place : (k n r written field new : ℕ) → Passes (before next m calls k) (calls k) (AskScx n r written field new)
       → taskAt (before next m calls (suc k)) (calls k .task) .place ≡ H1 (before next m calls k .used + 1) 0 Own
+  pub llx-place : (k r : ℕ) → Passes (before next m calls k) (calls k) (AskLlx r) → taskAt (before next m calls (suc k)) (calls k .task) .place ≡ L1 r
+  pub vlx-place : (k n : ℕ) → Passes (before next m calls k) (calls k) (AskVlx n) → taskAt (before next m calls (suc k)) (calls k .task) .place ≡ Vlx n 0
+  pub read-place : (k r f : ℕ) → Passes (before next m calls k) (calls k) (AskRead r f)
+      → taskAt (before next m calls (suc k)) (calls k .task) .place ≡ Read r f
 
 abbrev pub course : (m : Machine) (calls : ℕ → Call) → Run m calls → Course
 course m calls R =
@@ -61,3 +66,18 @@ task-in m t h = rw (lt-ltb t (m .p) h) refl
 
 pub link-in : (m : Machine) (t r : ℕ) → t < m .p → r < m .n → linkIn m t r ≡ linkAt m t r
 link-in m t r h l = rw (lt-ltb t (m .p) h, lt-ltb r (m .n) l) refl
+
+-- what the clauses know of a task of the table before call k
+module _ (m : Machine) (calls : ℕ → Call) (R : Run m calls) (k t : ℕ) (tl : t < m .p) where
+  pub inside : t < before next m calls k .p
+  inside = subst (λ p. t < p) (sym (R .same-p k)) tl
+
+  pub task-is : taskIn (before next m calls k) t ≡ taskAt (before next m calls k) t
+  task-is = task-in (before next m calls k) t inside
+
+  pub place-known : At (S (course m calls R) k) (history (course m calls R) k) (taskAt (before next m calls k) t .cells) (place next m calls k t)
+  place-known = subst (λ (x : Task). At (S (course m calls R) k) (history (course m calls R) k) (x .cells) (x .place)) task-is
+      (fine (course m calls R) k .PLACES t)
+
+  pub works-live : changeOf (place next m calls k t) ≢ 0 → Live (X (course m calls R) k) (changeOf (place next m calls k t))
+  works-live z = (z, inr (t, ap (λ (x : Task). changeOf (x .place)) task-is))
