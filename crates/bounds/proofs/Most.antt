@@ -1,7 +1,7 @@
 -- "LLX 39, VLX n, READ 1, SCX 2n + f + 3": along a run the rank falls with each own step and never rises, so its value at the start
 -- bounds them.
 use Prim.Native.Nat.{ℕ, suc, _+_, _-_, _*_, _≤_, _<_}
-use mathlib.Core.Path.{_≡_, ap, _∙_, subst}
+use mathlib.Core.Path.{_≡_, refl, ap, _∙_, subst}
 use mathlib.Core.Logic.{inr, _≢_}
 use native.Mathlib.Omega.{arith}
 use native.Mathlib.Nat.{le-refl}
@@ -44,11 +44,11 @@ module _ (m : Machine) (calls : ℕ → Call) (R : Run m calls) where
     lowers : (k : ℕ) → at k ≢ Idle → (s : Seen) (ch : Change) (linked : ℕ) → termsOf ch ≡ S C k .terms (changeOf (at k)) → Saw (S C k) s (at k)
         → rank (apply (actAt (S C k) (at k)) (S C k)) (resume (at k) s ch linked .place) < rank (S C k) (at k)
     lowers k b s ch linked e w = lower (X C k) (history C k) (fine C k) (taskAt (M k) t .cells) s ch linked (at k) e w
-        (works-live m calls R k t tl) (place-known m calls R k t tl) b
+        (works-live m calls R k t tl _ refl) (place-known m calls R k t tl) b
 
     stays : (k : ℕ) → rank (S C (suc k)) (at k) ≤ rank (S C k) (at k)
     stays k = rw (turn C k .shared) (keeps (S C k) (history C k) (C .who k) (C .reads k) (C .act k) (turn C k .guard) (at k)
-        (not-taken C k (changeOf (at k)) (works-live m calls R k t tl)))
+        (not-taken C k (changeOf (at k)) (works-live m calls R k t tl _ refl)))
 
     most : (s k : ℕ) → Going next m calls s t k → own next m calls s t k < rank (S C (suc s)) (at (suc s))
     most s k g = at-most m calls R s t tl (λ Z q n. rank Z q ≤ n) Yes k _ (le-refl _)

@@ -1,6 +1,6 @@
 -- A run whose tables are in shape and whose calls are turns is a course of the clauses.
 use Prim.Native.Nat.{ℕ, suc, _+_, _≤_, _<_}
-use mathlib.Core.Path.{_≡_, refl, sym, ap, subst}
+use mathlib.Core.Path.{_≡_, refl, sym, ap, _∙_, subst}
 use mathlib.Core.Logic.{inr, _≢_}
 use mathlib.Core.Bool.{true, false}
 use borrow.Author.Tests.{lt-ltb}
@@ -29,6 +29,7 @@ pub record Run (m : Machine) (calls : ℕ → Call) : Type 0 where
   pub turns : (k : ℕ) (G : Ghost) → Clauses (view (before next m calls k)) G
       → Turn (view (before next m calls k)) (view (before next m calls (suc k))) G (calls k .task) (did (before next m calls k) (calls k))
       (reading (before next m calls k) (calls k))
+  -- tasks past P are idle
   pub past : (k t : ℕ) → m .p ≤ t → taskAt (before next m calls k) t .place ≡ Idle
   -- the cells of a snapshot are those of the link that it stores
   pub snapshots : (k : ℕ) → Passes (before next m calls k) (calls k) AskStep → moveAt (before next m calls k) (calls k .task) .store ≡ true
@@ -79,5 +80,5 @@ module _ (m : Machine) (calls : ℕ → Call) (R : Run m calls) (k t : ℕ) (tl 
   place-known = subst (λ (x : Task). At (S (course m calls R) k) (history (course m calls R) k) (x .cells) (x .place)) task-is
       (fine (course m calls R) k .PLACES t)
 
-  pub works-live : changeOf (place next m calls k t) ≢ 0 → Live (X (course m calls R) k) (changeOf (place next m calls k t))
-  works-live z = (z, inr (t, ap (λ (x : Task). changeOf (x .place)) task-is))
+  pub works-live : (u : ℕ) → changeOf (place next m calls k t) ≡ u → u ≢ 0 → Live (X (course m calls R) k) u
+  works-live u e z = (z, inr (t, ap (λ (x : Task). changeOf (x .place)) task-is ∙ e))

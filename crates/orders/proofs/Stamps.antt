@@ -7,7 +7,7 @@ use mathlib.Core.Logic.{_≢_, ⊎-elim}
 use mathlib.Core.List.{List}
 use native.Mathlib.Omega.{arith}
 use lib.ListN.{length}
-use Rattle.rules.specs.Words.{Cell, Record, Machine, L11, Task, Call}
+use Rattle.rules.specs.Words.{Cell, Record, Machine, L11, Call}
 use Rattle.table.specs.Table.{cellAt, taskAt, changeAt, linkAt}
 use Rattle.rules.specs.Access.{changeOf}
 use Rattle.rules.specs.Claim.{Says}
@@ -16,10 +16,10 @@ use Rattle.table.specs.Fresh.{inRange, fresh}
 use Rattle.rules.specs.Next.{next}
 use Rattle.clauses.proofs.Memory.{write}
 use Rattle.clauses.proofs.Clauses.{At}
-use Rattle.clauses.proofs.Course.{S, history, fine}
+use Rattle.clauses.proofs.Course.{S, history}
 use Rattle.clauses.proofs.Sentences.{once as one-write}
 use Rattle.orders.specs.Demand.{before, place, cell, info, Change, spot, Effect}
-use Rattle.orders.proofs.Run.{Run, course, task-in}
+use Rattle.orders.proofs.Run.{Run, course, inside, place-known}
 use Rattle.orders.proofs.Number.{stamp-known}
 use Rattle.orders.proofs.FromFresh.{unused, run}
 use Rattle.orders.proofs.Changes.{number-is, alone}
@@ -77,10 +77,9 @@ module _ (p n : ℕ) (values : List ℕ) (ok : inRange p n (length values) ≡ t
   pub l11-reads-a-change : (k t r : ℕ) → t < m .p → place next m calls k t ≡ L11 r → info next m calls k r ≢ 0
   l11-reads-a-change k t r h e z =
       let C = course m calls R in
-      let tl = subst (λ p. t < p) (sym (R .same-p k)) h in
-      let known = subst (λ (x : Task). At (S C k) (history C k) (x .cells) (x .place)) (task-in (before next m calls k) t tl) (fine C k .PLACES t) in
+      let tl = inside m calls R k t h in
       let rl = subst (λ q. Says (before next m calls k .used) (placeFine (before next m calls k .n) (changeAt (before next m calls k) (changeOf q) .n)
       (changeAt (before next m calls k) (changeOf q) .r) (λ r. linkAt (before next m calls k) t r .there) (taskAt (before next m calls k) t .cells)
       (taskAt (before next m calls k) t .list) q)) e (R .shaped k .task-fine t tl) in
-      subst (λ q. At (S C k) (history C k) (taskAt (before next m calls k) t .cells) q) e known
+      subst (λ q. At (S C k) (history C k) (taskAt (before next m calls k) t .cells) q) e (place-known m calls R k t h)
       (ap (λ (x : Record). x .info) (is-in m calls R k r (subst (λ n. r < n) (R .same-n k) rl)) ∙ z)

@@ -3,10 +3,10 @@
 use Prim.Native.Nat.{ℕ, suc, _≤_, _<_}
 use mathlib.Core.Path.{_≡_, refl, sym, ap, _∙_, subst}
 use mathlib.Core.Bool.{Bool, true, false}
-use mathlib.Core.Logic.{inr, _≢_, ⊎-elim}
+use mathlib.Core.Logic.{_≢_, ⊎-elim}
 use mathlib.Core.List.{List}
 use native.Mathlib.Omega.{arith}
-use Rattle.rules.specs.Words.{Cell, Record, After, Machine, Place, H1, Task, Call}
+use Rattle.rules.specs.Words.{Cell, Record, After, Machine, Place, H1, Call}
 use Rattle.table.specs.Table.{taskAt}
 use Rattle.rules.specs.Access.{changeOf}
 use Rattle.rules.specs.Next.{next}
@@ -19,9 +19,8 @@ use Rattle.clauses.proofs.Came.{Sets}
 use Rattle.clauses.proofs.Sentences.{happened, because, never}
 use Rattle.orders.specs.Demand.{Brings, at-h3, at-h4, at-h8, before, place, info, Steps, named, During, Effect, Holds, LinkedRead, Verdict}
 use Rattle.orders.specs.Demand.{Change as Made}
-use Rattle.orders.proofs.View.{taskIn}
 use Rattle.orders.proofs.Calls.{obeyed, held}
-use Rattle.orders.proofs.Run.{Run, course, task-in}
+use Rattle.orders.proofs.Run.{Run, course, place-known, works-live}
 use Rattle.orders.proofs.Changes.{another, terms, makes, change-of, alone, during}
 use Rattle.orders.proofs.Effects.{is-in, inside, step-passes, passed-steps, writes, effect}
 use Rattle.orders.proofs.Untouched.{read-of}
@@ -62,24 +61,22 @@ module _ (m : Machine) (calls : ℕ → Call) (R : Run m calls) where
   Ch = Made next m calls
 
   -- a task that makes a step is one of the table's, so the clauses know its place
-  pub stepper : (k t : ℕ) → Steps next m calls k t → taskIn (M k) t ≡ taskAt (M k) t
-  stepper k t P = task-in (M k) t (subst (λ t. t < M k .p) (P .by) (obeyed (M k) (calls k) _ (step-passes m calls R k t P) .0))
+  stepper : (k t : ℕ) → Steps next m calls k t → t < m .p
+  stepper k t P = subst (λ p. t < p) (R .same-p k)
+      (subst (λ t. t < M k .p) (P .by) (obeyed (M k) (calls k) _ (step-passes m calls R k t P) .0))
 
-  pub known-at : (k t : ℕ) → Steps next m calls k t → At (S C k) (H k) (taskAt (M k) t .cells) (place next m calls k t)
-  known-at k t P = subst (λ (x : Task). At (S C k) (H k) (x .cells) (x .place)) (stepper k t P) (fine C k .PLACES t)
-
-  pub live-at : (k t u : ℕ) → Steps next m calls k t → changeOf (place next m calls k t) ≡ u → u ≢ 0 → Live (X C k) u
-  live-at k t u P e z = (z, inr (t, ap (λ (x : Task). changeOf (x .place)) (stepper k t P) ∙ e))
+  known-at : (k t : ℕ) → Steps next m calls k t → At (S C k) (H k) (taskAt (M k) t .cells) (place next m calls k t)
+  known-at k t P = place-known m calls R k t (stepper k t P)
 
   verdict-live : (c : Ch) (k : ℕ) (v : Bool) → Verdict next m calls c k v → Live (X C k) (c .number)
-  verdict-live c k v B = live-at k (B .by) (c .number) (B .steps) (names _ _ _ _ v (B .brings))
+  verdict-live c k v B = works-live m calls R k (B .by) (stepper k (B .by) (B .steps)) (c .number) (names _ _ _ _ v (B .brings))
       (nonzero (S C k) (H k) _ _ _ _ _ v (B .brings) (known-at k (B .by) (B .steps)))
 
   said-of : (c : Ch) (k : ℕ) (v : Bool) → Verdict next m calls c k v → Tells (S C k) (H k) (c .number) v
   said-of c k v B = tells (S C k) (H k) (c .number) (fine C k .CHANGES (c .number) (verdict-live c k v B)) _ _ _ v (B .brings)
       (known-at k (B .by) (B .steps))
 
-  -- "v only after the effect"
+  -- "yes only after the effect"
   pub yes-after : (c : Ch) (k : ℕ) → Verdict next m calls c k true → (j : ℕ) × (j < k) × Effect next m calls c j
   yes-after c k B =
       let D = B .during in

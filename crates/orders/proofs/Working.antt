@@ -14,19 +14,19 @@ use Rattle.rules.specs.Next.{next}
 use Rattle.clauses.proofs.Updates.{leb-case}
 use Rattle.clauses.proofs.Memory.{Shared}
 use Rattle.clauses.proofs.History.{Ghost}
-use Rattle.clauses.proofs.Clauses.{At}
+use Rattle.clauses.proofs.Clauses.{At, Live}
 use Rattle.clauses.proofs.Steps.{Saw}
-use Rattle.clauses.proofs.Course.{Course, S, history, fine, not-taken as live-not-taken}
+use Rattle.clauses.proofs.Course.{Course, X, S, history, not-taken as live-not-taken}
 use Rattle.orders.specs.Demand.{Brings, at-h3, at-h4, at-h8, Works, h1, h2, h3, h4, h5, h6, h7, h8, leads, answers}
 use Rattle.orders.specs.Demand.{before, said, place, Steps, Change, Verdict}
 use Rattle.orders.proofs.Seen.{saw}
 use Rattle.orders.proofs.Calls.{Passes, next-is, obeyed}
 use Rattle.orders.proofs.Finishes.{Finishing, finishing}
-use Rattle.orders.proofs.Run.{Run, course, task-in}
+use Rattle.orders.proofs.Run.{Run, course, inside, place-known, works-live}
 use Rattle.orders.proofs.Busy.{by-steps}
 use Rattle.orders.proofs.Changes.{starts}
 use Rattle.orders.proofs.Effects.{step-passes, passed-steps}
-use Rattle.orders.proofs.Verdicts.{known-at, live-at, change-at}
+use Rattle.orders.proofs.Verdicts.{change-at}
 
 -- a place of work names its change, which is not 0, and is not idle
 pub works-on : (u : ℕ) (after : After) (q : Place) → Works u after q → (changeOf q ≡ u) × (isIdle q ≡ false)
@@ -93,14 +93,22 @@ module _ (m : Machine) (calls : ℕ → Call) (R : Run m calls) where
       inr (h .0, sees (S C k) s u after _ (h .0) (saw (M k) (R .shaped k) t tl) (h .1), h .2, h .3))
       (finishing u after (place next m calls k t) W s (changeAt (M k) (changeOf (place next m calls k t))) (linkAt (M k) t (recordOf (accessAt (M k) t)) .info))
 
+  -- who works is a task of the table, and what it works on is live
+  worker : (k t u : ℕ) (after : After) → Works u after (place next m calls k t) → t < m .p
+  worker k t u after W =
+      ⊎-elim (λ h. absurd (true≢false (sym (ap isIdle (R .past k t h)) ∙ works-on u after _ W .1))) (λ l. l) (leb-case (m .p) t)
+
+  worked-on : (k t u : ℕ) (after : After) → Works u after (place next m calls k t) → Live (X C k) u
+  worked-on k t u after W = let l = worker k t u after W in
+      works-live m calls R k t l u (works-on u after _ W .0)
+      (works-nonzero (S C k) (history C k) _ u after _ W (place-known m calls R k t l))
+
   -- a step of a task that works on u
   by-step : (k t u : ℕ) (after : After) → Steps next m calls k t → Works u after (place next m calls k t)
       → Finishing u after (changeAt (M k) u .frozen) (place next m calls k t) (moveAt (M k) t) → Going-on k t u after ⊎ Done k t u
   by-step k t u after P W (inl (w, a)) = inl (subst (λ q. Works u after q) (sym (moved k t P .0)) w, λ Q. moved k t P .1 ∙ a)
   by-step k t u after P W (inr (v, B, q, a)) =
-      let h = known-at m calls R k t P in
-      let l = live-at m calls R k t u P (works-on u after _ W .0) (works-nonzero (S C k) (history C k) _ u after _ W h) in
-      let (c, e, D) = change-at m calls R k u l in
+      let (c, e, D) = change-at m calls R k u (worked-on k t u after W) in
       inr (
         P,
         (
@@ -118,14 +126,6 @@ module _ (m : Machine) (calls : ℕ → Call) (R : Run m calls) where
         ),
       )
 
-  -- who works is a task of the table
-  worker : (k t u : ℕ) (after : After) → Works u after (place next m calls k t) → t < m .p
-  worker k t u after W =
-      ⊎-elim (λ h. absurd (true≢false (sym (ap isIdle (R .past k t h)) ∙ works-on u after _ W .1))) (λ l. l) (leb-case (m .p) t)
-
-  inside : (t : ℕ) → t < m .p → (k : ℕ) → t < M k .p
-  inside t h k = subst (λ p. t < p) (sym (R .same-p k)) h
-
   pub finishes : (k t u : ℕ) (after : After) → Works u after (place next m calls k t) → Going-on k t u after ⊎ Done k t u
   unfolding before
   finishes k t u after W = ⊎-elim
@@ -134,17 +134,11 @@ module _ (m : Machine) (calls : ℕ → Call) (R : Run m calls) where
       (λ (h : Passes (M k) (calls k) AskStep × (calls k .task ≡ t)).
       let P = subst (λ t. Steps next m calls k t) (h .1) (passed-steps m calls R k (h .0)) in
       by-step k t u after P W (finish k t u after P W))
-      (by-steps (M k) (calls k) t (inside t l k) (inside t l (suc k)) (works-on u after _ W .1))
+      (by-steps (M k) (calls k) t (inside m calls R k t l) (inside m calls R (suc k) t l) (works-on u after _ W .1))
     where
       l : t < m .p
       l = worker k t u after W
 
   pub not-taken : (c : Ch) (t : ℕ) (after : After) → Works (c .number) after (place next m calls (c .start) t) → ⊥
   not-taken c t after W =
-      let k = c .start in
-      let e = task-in (M k) t (inside t (worker k t (c .number) after W) k) in
-      let h = subst (λ (x : Task). At (S C k) (history C k) (x .cells) (x .place)) e (fine C k .PLACES t) in
-      live-not-taken C k (c .number) (
-        works-nonzero (S C k) (history C k) _ (c .number) after _ W h,
-        inr (t, ap (λ (x : Task). changeOf (x .place)) e ∙ works-on (c .number) after _ W .0),
-      ) (starts m calls R c (c .number) refl)
+      live-not-taken C (c .start) (c .number) (worked-on (c .start) t (c .number) after W) (starts m calls R c (c .number) refl)
