@@ -1,6 +1,6 @@
+pub mod Stored
 pub mod View
 pub mod Number
-pub mod Stored
 pub mod Acts
 pub mod Shares
 pub mod Frames

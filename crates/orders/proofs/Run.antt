@@ -5,7 +5,7 @@ use mathlib.Core.Logic.{inr, _≢_}
 use mathlib.Core.Bool.{true, false}
 use borrow.Author.Tests.{lt-ltb}
 use Rattle.rules.specs.Words.{Machine, Task, Own, Idle, L1, H1, Vlx, Read, AskLlx, AskScx, AskVlx, AskRead, AskStep, Call}
-use Rattle.table.specs.Table.{recordAt, taskAt, linkAt}
+use Rattle.table.specs.Table.{noRecord, noTask, recordAt, taskAt, linkAt}
 use Rattle.rules.specs.Access.{changeOf, recordOf}
 use Rattle.rules.specs.Step.{accessAt, moveAt}
 use Rattle.rules.specs.Next.{next}
@@ -16,6 +16,7 @@ use Rattle.clauses.proofs.Clauses.{Fine as Clauses}
 use Rattle.clauses.proofs.Turn.{Turn}
 use Rattle.clauses.proofs.Course.{Course, X, S, history, fine}
 use Rattle.orders.specs.Demand.{before, place}
+use Rattle.orders.proofs.Stored.{entry-is}
 use Rattle.orders.proofs.View.{recordIn, taskIn, linkIn, view, did, reading}
 use Rattle.orders.proofs.Calls.{Passes}
 
@@ -60,10 +61,10 @@ course m calls R =
 
 -- inside the table the view is the table
 pub record-in : (m : Machine) (r : ℕ) → r < m .n → recordIn m r ≡ recordAt m r
-record-in m r h = rw (lt-ltb r (m .n) h) refl
+record-in m r h = entry-is (m .n) (m .records) noRecord r h
 
 pub task-in : (m : Machine) (t : ℕ) → t < m .p → taskIn m t ≡ taskAt m t
-task-in m t h = rw (lt-ltb t (m .p) h) refl
+task-in m t h = entry-is (m .p) (m .tasks) noTask t h
 
 pub link-in : (m : Machine) (t r : ℕ) → t < m .p → r < m .n → linkIn m t r ≡ linkAt m t r
 link-in m t r h l = rw (lt-ltb t (m .p) h, lt-ltb r (m .n) l) refl

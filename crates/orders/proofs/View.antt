@@ -5,7 +5,7 @@ use mathlib.Core.Bool.{false}
 use mathlib.Core.List.{List}
 use lib.Dec.{ltb}
 use Rattle.rules.specs.Words.{Record, Task, Link, Machine, Ask, AskLlx, AskScx, AskVlx, AskRead, AskStep, Call, Check, Passed, Failed}
-use Rattle.table.specs.Table.{pick, noRecord, noTask, noLink, cellAt, recordAt, changeAt, taskAt, linkAt, stateOf}
+use Rattle.table.specs.Table.{pick, noRecord, noTask, noLink, taskAt, linkAt}
 use Rattle.rules.specs.Access.{recordOf}
 use Rattle.rules.specs.Step.{accessAt, moveAt}
 use Rattle.rules.specs.Start.{filled}
@@ -13,26 +13,19 @@ use Rattle.rules.specs.Refuse.{check, rulesOf}
 use Rattle.clauses.proofs.Memory.{Shared, Table, Act, nop, make}
 use Rattle.clauses.proofs.History.{Reading}
 use Rattle.clauses.proofs.Steps.{termsOf, actAt}
+use Rattle.orders.proofs.Stored.{entryIn, sharedIn}
 
 abbrev pub recordIn : Machine → ℕ → Record
-recordIn m r = pick (ltb r (m .n)) (recordAt m r) noRecord
+recordIn m r = entryIn (m .n) (m .records) noRecord r
 
 abbrev pub taskIn : Machine → ℕ → Task
-taskIn m t = pick (ltb t (m .p)) (taskAt m t) noTask
+taskIn m t = entryIn (m .p) (m .tasks) noTask t
 
 abbrev pub linkIn : Machine → ℕ → ℕ → Link
 linkIn m t r = pick (ltb t (m .p)) (pick (ltb r (m .n)) (linkAt m t r) noLink) noLink
 
 abbrev pub shared : Machine → Shared
-shared m =
-    record {
-      terms = λ u. termsOf (changeAt m u);
-      state = λ u. stateOf u (changeAt m u);
-      frozen = λ u. changeAt m u .frozen;
-      info = λ r. recordIn m r .info;
-      mark = λ r. recordIn m r .mark;
-      cell = λ r f. cellAt (recordIn m r .cells) f;
-    }
+shared m = sharedIn (m .n) (m .records) (m .changes)
 
 abbrev pub view : Machine → Table
 view m = record { sh = shared m; task = λ t. taskIn m t; link = λ t r. linkIn m t r }
