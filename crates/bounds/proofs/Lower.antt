@@ -18,7 +18,7 @@ use Rattle.keeps.proofs.Stores.{picked}
 use Rattle.clauses.proofs.Memory.{Terms, Shared, Table, apply, nop, hold, abort, freeze, close, commit}
 use Rattle.clauses.proofs.History.{Ghost}
 use Rattle.clauses.proofs.Clauses.{At, Live, Fine}
-use Rattle.clauses.proofs.Events.{AI}
+use Rattle.clauses.proofs.Rights.{AI}
 use Rattle.clauses.proofs.Steps.{termsOf, is-stored, actAt, Saw}
 use Rattle.bounds.proofs.Marks.{count, all, count-le, one-less, marks}
 use Rattle.bounds.proofs.Rank.{rest, ended, rank}

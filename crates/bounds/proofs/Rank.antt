@@ -13,7 +13,7 @@ use Rattle.keeps.proofs.Stores.{picked}
 use Rattle.clauses.proofs.Memory.{Shared, Act, apply}
 use Rattle.clauses.proofs.History.{Ghost, Reading}
 use Rattle.clauses.proofs.Clauses.{Off, Guard}
-use Rattle.clauses.proofs.Events.{CI, AI, st?}
+use Rattle.clauses.proofs.Rights.{CI, AI, st?}
 use Rattle.clauses.proofs.Frame.{same-terms, stay-state}
 use Rattle.bounds.proofs.Marks.{count, all}
 

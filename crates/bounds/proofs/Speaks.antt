@@ -16,7 +16,7 @@ use Rattle.rules.specs.Shape.{shape, inShape}
 use Rattle.rules.specs.Start.{start}
 use Rattle.rules.specs.Refuse.{linkedAt, rulesOf}
 use Rattle.rules.specs.Next.{refused, started, next}
-use Rattle.clauses.proofs.Events.{AI}
+use Rattle.clauses.proofs.Rights.{AI}
 use Rattle.orders.specs.Demand.{before, said, place, mark, info, Change, named}
 use Rattle.bounds.specs.Bounds.{own, Starts, UndisturbedScx, UndisturbedLlx}
 

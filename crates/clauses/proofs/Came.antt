@@ -1,4 +1,4 @@
--- What the history tells happened: Hap came by a write, the last hold of a record by an H1, the last effect by a write.
+-- What the history tells happened: a change has happened by a write, the last hold of a record by an H1, the last effect by a write.
 use Prim.Native.Nat.{ℕ, zero, suc, _≤_, _<_}
 use mathlib.Core.Path.{_≡_, refl, sym, ap, _∙_, subst}
 use mathlib.Core.Bool.{true, false}
@@ -11,7 +11,7 @@ use Rattle.clauses.proofs.Memory.{Shared, spot, new-cell, apply}
 use Rattle.clauses.proofs.Memory.{Act, nop, hold, abort, freeze, close, write, commit, make}
 use Rattle.clauses.proofs.History.{Ghost, Reading, note}
 use Rattle.clauses.proofs.Clauses.{Live}
-use Rattle.clauses.proofs.Events.{hold-going, write-going}
+use Rattle.clauses.proofs.Rights.{hold-going, write-going}
 use Rattle.clauses.proofs.Course.{Course, X, S, history, fine, turn, guard, room, now-is}
 
 hap-back : (S : Shared) (G : Ghost) (t : ℕ) (k : Reading) (b : Act) (u : ℕ) → note t b k S G .hap u ≡ true → (G .hap u ≡ true) ⊎ (b ≡ write u)
@@ -105,7 +105,7 @@ module _ (C : Course) where
   pub writes-alter : (k u : ℕ) → Writes k u
       → S C (suc k) .cell (spot (S C k .terms u)) (S C k .terms u .field) ≢ S C k .cell (spot (S C k .terms u)) (S C k .terms u .field)
   writes-alter k u e q = let g = guard C k (write u) e in
-      g .ok .KSTAMP (subst (λ x. S C k .state x ≡ InProgress) (ap (λ (c : Cell). c .stamp) (sym (writes-new k u e) ∙ q ∙ g .is-old))
+      g .ok .OLD-ENDED (subst (λ x. S C k .state x ≡ InProgress) (ap (λ (c : Cell). c .stamp) (sym (writes-new k u e) ∙ q ∙ g .is-old))
       (write-going (S C k) (H k) (C .who k) u g))
 
   pub hap-now : (k u : ℕ) → Writes k u → H (suc k) .hap u ≡ true

@@ -16,21 +16,25 @@ use Rattle.clauses.proofs.History.{Ghost}
 abbrev pub InR : Shared → ℕ → ℕ → Type 0
 InR S a r = (i : ℕ) × (i < S .terms a .n) × (S .terms a .closes i ≡ true) × (S .terms a .rec i ≡ r)
 
--- FINAL, of an info a kept for a comparison at r
+-- an info a kept for a comparison at r has ended, and if it committed it does not close r
 abbrev pub Final : Shared → ℕ → ℕ → Type 0
 Final S r a = (S .state a ≢ InProgress) × (S .state a ≡ Committed → InR S a r → ⊥)
 
--- SNAP: the first k cells read of r are those that it has, as long as its info is a
+-- the first k cells read of r are those that it has, as long as its info is a
 abbrev pub Snap : Shared → ℕ → ℕ → ℕ → List Cell → Type 0
 Snap S r a k cs = S .info r ≡ a → (f : ℕ) → f < k → S .cell r f ≡ cellAt cs f
 
--- an anchor with the time e of the end of its read: FINAL, and GLINK or GSTORED
+-- an info a that a read of r, ended at the time e, has kept: in a link, or as a stored info of a live change
 pub record Anchor (S : Shared) (G : Ghost) (r a e : ℕ) : Type 0 where
+  -- it has ended
   pub FINAL : Final S r a
+  -- while it stands, nobody has taken hold of r and no effect has come to r since the read
   pub CLEAR : S .info r ≡ a → (G .took r < e) × (G .eff r < e)
+  -- if it has gone, somebody has taken hold since
   pub TAKEN : S .info r ≢ a → e < G .took r
   pub PAST : e ≤ G .now
 
+-- the places before i were held
 abbrev pub HeldTo : (ℕ → Bool) → ℕ → Type 0
 HeldTo hd i = (j : ℕ) → j < i → hd j ≡ true
 
@@ -38,29 +42,34 @@ HeldTo hd i = (j : ℕ) → j < i → hd j ≡ true
 abbrev pub MarkedTo : Shared → Terms → ℕ → Type 0
 MarkedTo S c i = (j : ℕ) → j < i → c .closes j ≡ true → S .mark (c .rec j) ≡ true
 
--- P4: another took the record of place j before it could be held; all before it were held
+-- another took the record of place j before it could be held; all before it were held
 abbrev pub Lost : Terms → (ℕ → Bool) → Shared → Type 0
 Lost c hd S = (j : ℕ) × (j < c .n) × HeldTo hd j × (hd j ≡ false) × (S .info (c .rec j) ≢ c .infos j)
 
--- the clauses of a live change u: c its contents, s its state, fz allFrozen, hp Hap, hd the places held, e the ends of its linked reads
+-- the clauses of a live change u: c its terms, s its state, fz allFrozen, hp whether it has happened, hd the places held, e the ends of
+-- its linked reads
 pub record Ok (c : Terms) (s : State) (fz hp : Bool) (hd : ℕ → Bool) (e : ℕ → ℕ) (S : Shared) (G : Ghost) (u : ℕ) : Type 0 where
+  -- what it wrote down: no record twice; the ranges; each stored info an anchor; the stamp of the old cell ended
   pub APART : (i j : ℕ) → i < c .n → j < c .n → c .rec i ≡ c .rec j → i ≡ j
   pub SHAPE : (c .n ≤ 4) × (c .place < c .n) × (c .field < 4)
   pub ANCHORS : (i : ℕ) → i < c .n → Anchor S G (c .rec i) (c .infos i) (e i)
-  pub KSTAMP : S .state (c .old .stamp) ≢ InProgress
+  pub OLD-ENDED : S .state (c .old .stamp) ≢ InProgress
+  -- until it happens, the cell is the old one as long as nobody else holds the record
   pub SNAP : hp ≡ false → (S .info (spot c) ≡ c .infos (c .place)) ⊎ (S .info (spot c) ≡ u) → S .cell (spot c) (c .field) ≡ c .old
-  -- what was held, P1 and P2
+  -- what was held has not the stored info; what has the info u was held; in progress, what was held has the info u; frozen, all was held
   pub GONE : (i : ℕ) → i < c .n → hd i ≡ true → S .info (c .rec i) ≢ c .infos i
   pub HELD : (i : ℕ) → i < c .n → S .info (c .rec i) ≡ u → hd i ≡ true
   pub HOLDS : (i : ℕ) → i < c .n → hd i ≡ true → s ≡ InProgress → S .info (c .rec i) ≡ u
   pub FROZEN : fz ≡ true → HeldTo hd (c .n)
-  -- P3, P4
+  -- frozen, it holds for good what it closes; committed, it has happened; aborted, it is lost
   pub CLOSED : fz ≡ true → (i : ℕ) → i < c .n → c .closes i ≡ true → S .info (c .rec i) ≡ u
   pub COMMITTED : s ≡ Committed → hp ≡ true
   pub ABORTED : s ≡ Aborted → Lost c hd S
+  -- happened, it is frozen, what it closes is marked, and the old cell is gone
   pub HAPPENED : hp ≡ true → (fz ≡ true) × MarkedTo S c (c .n)
-  pub P3CELL : hp ≡ true → S .cell (spot c) (c .field) .stamp ≢ c .old .stamp
-  pub GSTORED : (i : ℕ) → i < c .n → S .info (c .rec i) ≡ u → hp ≡ false → G .eff (c .rec i) < e i
+  pub OLD-GONE : hp ≡ true → S .cell (spot c) (c .field) .stamp ≢ c .old .stamp
+  -- not happened, no effect has come to a record that it holds since the linked read
+  pub CLEAR-HELD : (i : ℕ) → i < c .n → S .info (c .rec i) ≡ u → hp ≡ false → G .eff (c .rec i) < e i
 
 abbrev pub OkOf : Shared → Ghost → ℕ → Type 0
 OkOf S G u = Ok (S .terms u) (S .state u) (S .frozen u) (G .hap u) (G .held u) (G .since u) S G u
@@ -133,7 +142,7 @@ Room X (write u) = Live X u
 Room X (commit u) = Unit {0}
 Room X (make u c) = Fresh X u
 
--- y is not the number that the action takes
+-- y is not the number that the act takes
 abbrev pub Off : Act → ℕ → Type 0
 Off nop y = Unit {0}
 Off (hold u i) y = Unit {0}
@@ -156,7 +165,7 @@ pub record Made (S : Shared) (G : Ghost) (t u : ℕ) (c : Terms) : Type 0 where
   pub no-infos : (i : ℕ) → i < c .n → c .infos i ≢ u
   pub no-old : c .old .stamp ≢ u
 
--- what the task's place tells when the action is taken
+-- what the task's place tells when the act is done
 abbrev pub Guard : Shared → Ghost → ℕ → Act → Type 0
 Guard S G t nop = Unit {0}
 Guard S G t (hold u i) = record {

@@ -8,7 +8,7 @@ use Rattle.clauses.proofs.Updates.{tf, le-split}
 use Rattle.clauses.proofs.Memory.{Terms, Shared, apply, make}
 use Rattle.clauses.proofs.History.{Ghost, note}
 use Rattle.clauses.proofs.Clauses.{OkOf, Live}
-use Rattle.clauses.proofs.Events.{not-hap, write-holds}
+use Rattle.clauses.proofs.Rights.{not-hap, write-holds}
 use Rattle.clauses.proofs.Frame.{same-terms, stay-hap}
 use Rattle.clauses.proofs.Turn.{stays-ok}
 use Rattle.clauses.proofs.Course.{Course, X, S, history, fine, turn, Unstarted, off-live, since-start}

@@ -1,4 +1,4 @@
--- One frame law for each part of the state: what an action of any task leaves as it was, or never takes back.
+-- One frame law for each part of the state: what an act of any task leaves as it was, or never takes back.
 use Prim.Native.Nat.{ℕ, suc}
 use mathlib.Core.Path.{_≡_, refl, sym, ap, _∙_, subst}
 use mathlib.Core.Bool.{Bool, true, false}
@@ -12,7 +12,7 @@ use Rattle.clauses.proofs.Memory.{Act, nop, hold, abort, freeze, close,
 use Rattle.clauses.proofs.History.{Reading}
 use Rattle.clauses.proofs.History.{Ghost, note}
 use Rattle.clauses.proofs.Clauses.{Final, Snap, Anchor, Off, Guard}
-use Rattle.clauses.proofs.Events.{st?, lost-hap, lost-committed, hold-going, write-going, write-holds}
+use Rattle.clauses.proofs.Rights.{st?, lost-hap, lost-committed, hold-going, write-going, write-holds}
 
 module _ (S : Shared) (G : Ghost) (t : ℕ) (k : Reading) where
   -- what a change wrote down
@@ -38,7 +38,7 @@ module _ (S : Shared) (G : Ghost) (t : ℕ) (k : Reading) where
   same-since (commit x) u o = refl
   same-since (make x c) u o = upd-miss (G .since) x _ o
 
-  -- marks, allFrozen, Hap and what was held stay
+  -- marks, allFrozen, what has happened and what was held stay
   pub stay-mark : (b : Act) (r : ℕ) → S .mark r ≡ true → apply b S .mark r ≡ true
   unfolding apply
   stay-mark nop r h = h
@@ -84,7 +84,7 @@ module _ (S : Shared) (G : Ghost) (t : ℕ) (k : Reading) where
   stay-held (commit x) u j o h = h
   stay-held (make x c) u j o h = rw (upd-miss (G .held) x (λ i. false) o) h
 
-  -- E4: a final state stays
+  -- the state of an ended change stays
   pub stay-state : (b : Act) → Guard S G t b → (a : ℕ) → Off b a → S .state a ≢ InProgress → apply b S .state a ≡ S .state a
   unfolding apply
   stay-state nop g a o h = refl
@@ -104,7 +104,7 @@ module _ (S : Shared) (G : Ghost) (t : ℕ) (k : Reading) where
   pub stay-final : (b : Act) → Guard S G t b → (r a : ℕ) → Off b a → Final S r a → Final (apply b S) r a
   stay-final b g r a o h = rw (stay-state b g a o (h .0), same-terms b a o) h
 
-  -- E3: an info kept for a comparison does not return
+  -- an info kept for a comparison does not return
   pub no-return : (b : Act) → Guard S G t b → (r a : ℕ) → S .state a ≢ InProgress → apply b S .info r ≡ a → S .info r ≡ a
   unfolding apply
   no-return nop g r a h e = e

@@ -16,7 +16,7 @@ use Rattle.clauses.proofs.Updates.{upd, upd-hit, same?, bool?, tf, leb-
 use Rattle.clauses.proofs.Memory.{Shared, Table, spot, apply, Act, nop, hold, abort, freeze, close, write, commit}
 use Rattle.clauses.proofs.History.{Ghost, Reading, note}
 use Rattle.clauses.proofs.Clauses.{HeldTo, MarkedTo, OkOf, LostOf, Guard, At, Live, Room, Fine}
-use Rattle.clauses.proofs.Events.{st?, lost-frozen}
+use Rattle.clauses.proofs.Rights.{st?, lost-frozen}
 use Rattle.clauses.proofs.Frame.{same-terms, stay-mark, stay-held}
 use Rattle.clauses.proofs.Steps.{is-stored, is-old}
 use Rattle.clauses.proofs.SameCell.{same-eq, eq-same}

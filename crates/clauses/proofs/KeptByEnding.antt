@@ -9,7 +9,7 @@ use Rattle.clauses.proofs.Memory.{Shared, apply}
 use Rattle.clauses.proofs.Memory.{nop, abort, freeze, close, commit}
 use Rattle.clauses.proofs.History.{Ghost, Reading, note}
 use Rattle.clauses.proofs.Clauses.{HeldTo, MarkedTo, OkOf, LostOf, Guard}
-use Rattle.clauses.proofs.Events.{CA, CI, AI, st?}
+use Rattle.clauses.proofs.Rights.{CA, CI, AI, st?}
 use Rattle.clauses.proofs.Frame.{stay-mark, stay-frozen, stay-ended}
 use Rattle.clauses.proofs.Spared.{Spared, Keeps, anchors}
 
@@ -34,7 +34,7 @@ module _ (S : Shared) (G : Ghost) (t : ℕ) (k : Reading) where
   unfolding apply note
   keep-abort x g u O o = search (
     anchors S G t k (abort x) g u O o,
-    stay-ended S G t k (abort x) g (S .terms u .old .stamp) tt (O .KSTAMP),
+    stay-ended S G t k (abort x) g (S .terms u .old .stamp) tt (O .OLD-ENDED),
     holds x Aborted (λ q. AI refl q) (λ q. CA q refl) (λ q. g .lost) u O,
     committed x Aborted (λ q. AI refl q) (λ q. CA q refl) (λ q. g .lost) u O,
     aborted x Aborted (λ q. AI refl q) (λ q. CA q refl) (λ q. g .lost) u O,
@@ -44,7 +44,7 @@ module _ (S : Shared) (G : Ghost) (t : ℕ) (k : Reading) where
   unfolding apply note
   keep-commit x g u O o = search (
     anchors S G t k (commit x) g u O o,
-    stay-ended S G t k (commit x) g (S .terms u .old .stamp) tt (O .KSTAMP),
+    stay-ended S G t k (commit x) g (S .terms u .old .stamp) tt (O .OLD-ENDED),
     holds x Committed (λ q. CI refl q) (λ q. g .hap) (λ q. CA refl q) u O,
     committed x Committed (λ q. CI refl q) (λ q. g .hap) (λ q. CA refl q) u O,
     aborted x Committed (λ q. CI refl q) (λ q. g .hap) (λ q. CA refl q) u O,

@@ -9,7 +9,7 @@ use Rattle.clauses.proofs.Memory.{Terms, Shared, spot, apply}
 use Rattle.clauses.proofs.Memory.{hold}
 use Rattle.clauses.proofs.History.{Ghost, Reading, note}
 use Rattle.clauses.proofs.Clauses.{Final, OkOf, Guard}
-use Rattle.clauses.proofs.Events.{st?, lost-frozen, hold-going}
+use Rattle.clauses.proofs.Rights.{st?, lost-frozen, hold-going}
 use Rattle.clauses.proofs.Frame.{stay-held}
 use Rattle.clauses.proofs.Lost.{stay-lost}
 use Rattle.clauses.proofs.Spared.{Spared, Keeps, anchors}
@@ -39,7 +39,7 @@ module _ (S : Shared) (G : Ghost) (t : ℕ) (k : Reading) where
     APART = O .APART;
     SHAPE = O .SHAPE;
     ANCHORS = anchors S G t k (hold x i) g u O o;
-    KSTAMP = O .KSTAMP;
+    OLD-ENDED = O .OLD-ENDED;
     SNAP = λ z. at (λ y. (y ≡ c .infos (c .place)) ⊎ (y ≡ u) → S .cell (spot c) (c .field) ≡ c .old) (S .info) _ _ (spot c)
         (λ e. ⊎-elim (λ q. absurd (other (c .place) (O .SHAPE .1) q))
         (λ (q : x ≡ u). O .SNAP z (inl (at-own x i g u O q (c .place) (O .SHAPE .1) e .1)))) (λ n. O .SNAP z);
@@ -60,9 +60,9 @@ module _ (S : Shared) (G : Ghost) (t : ℕ) (k : Reading) where
     COMMITTED = O .COMMITTED;
     ABORTED = λ a. stay-lost S G t k (hold x i) g u tt O (O .ABORTED a);
     HAPPENED = O .HAPPENED;
-    P3CELL = O .P3CELL;
-    GSTORED = λ j h. at (λ y. y ≡ u → G .hap u ≡ false → G .eff (c .rec j) < G .since u j) (S .info) _ _ (c .rec j)
-        (λ e q z. O .ANCHORS j h .CLEAR (at-own x i g u O q j h e .1) .1) (λ n. O .GSTORED j h);
+    OLD-GONE = O .OLD-GONE;
+    CLEAR-HELD = λ j h. at (λ y. y ≡ u → G .hap u ≡ false → G .eff (c .rec j) < G .since u j) (S .info) _ _ (c .rec j)
+        (λ e q z. O .ANCHORS j h .CLEAR (at-own x i g u O q j h e .1) .1) (λ n. O .CLEAR-HELD j h);
   }
     where
       c : Terms

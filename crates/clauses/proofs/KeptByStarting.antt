@@ -9,7 +9,7 @@ use Rattle.clauses.proofs.Memory.{Terms, Shared, apply}
 use Rattle.clauses.proofs.Memory.{make}
 use Rattle.clauses.proofs.History.{Ghost, Reading, note}
 use Rattle.clauses.proofs.Clauses.{Ok, OkOf, Guard}
-use Rattle.clauses.proofs.Events.{CI, AI}
+use Rattle.clauses.proofs.Rights.{CI, AI}
 use Rattle.clauses.proofs.Frame.{stay-ended, stay-anchor}
 use Rattle.clauses.proofs.Spared.{Spared, Keeps, anchors}
 
@@ -27,7 +27,7 @@ module _ (S : Shared) (G : Ghost) (t : ℕ) (k : Reading) where
   ) others
     where
       others : Ok (S .terms u) (S .state u) (S .frozen u) (G .hap u) (G .held u) (G .since u) (apply (make x d) S) (note t (make x d) k S G) u
-      others = search (anchors S G t k (make x d) g u O o, stay-ended S G t k (make x d) g (S .terms u .old .stamp) (o .2) (O .KSTAMP))
+      others = search (anchors S G t k (make x d) g u O o, stay-ended S G t k (make x d) g (S .terms u .old .stamp) (o .2) (O .OLD-ENDED))
 
   -- the clauses of the change that starts
   pub made-ok : (x : ℕ) (d : Terms) (g : Guard S G t (make x d)) → Keeps S G t k (make x d) x
@@ -48,7 +48,7 @@ module _ (S : Shared) (G : Ghost) (t : ℕ) (k : Reading) where
         APART = g .apart;
         SHAPE = g .shape;
         ANCHORS = λ i h. stay-anchor S G t k (make x d) g _ _ _ (g .no-infos i h) (g .anchors i h);
-        KSTAMP = stay-ended S G t k (make x d) g _ (g .no-old) (g .kstamp);
+        OLD-ENDED = stay-ended S G t k (make x d) g _ (g .no-old) (g .kstamp);
         SNAP = λ z. ⊎-elim (g .snap) (λ q. absurd (g .no-info _ q));
         GONE = λ i h z. tf z refl;
         HELD = λ i h q. absurd (g .no-info _ q);
@@ -58,6 +58,6 @@ module _ (S : Shared) (G : Ghost) (t : ℕ) (k : Reading) where
         COMMITTED = λ z. CI z refl;
         ABORTED = λ z. AI z refl;
         HAPPENED = λ z. tf z refl;
-        P3CELL = λ z. tf z refl;
-        GSTORED = λ i h q. absurd (g .no-info _ q);
+        OLD-GONE = λ z. tf z refl;
+        CLEAR-HELD = λ i h q. absurd (g .no-info _ q);
       }

@@ -9,7 +9,7 @@ use Rattle.clauses.proofs.Memory.{Terms, Shared, spot, apply}
 use Rattle.clauses.proofs.Memory.{write}
 use Rattle.clauses.proofs.History.{Ghost, Reading, note}
 use Rattle.clauses.proofs.Clauses.{MarkedTo, OkOf, Guard}
-use Rattle.clauses.proofs.Events.{write-going, write-holds}
+use Rattle.clauses.proofs.Rights.{write-going, write-holds}
 use Rattle.clauses.proofs.Frame.{stay-hap, stay-cell}
 use Rattle.clauses.proofs.Spared.{Spared, Keeps, anchors}
 
@@ -47,12 +47,12 @@ module _ (S : Shared) (G : Ghost) (t : ℕ) (k : Reading) where
       p3cell : upd (G .hap) x true u ≡ true → apply (write x) S .cell (spot c) (c .field) .stamp ≢ c .old .stamp
       p3cell z = at (λ (row : ℕ → Cell). row (c .field) .stamp ≢ c .old .stamp) (S .cell) _ _ (spot c)
           (λ e. at (λ (d : Cell). d .stamp ≢ c .old .stamp) (S .cell (spot (S .terms x))) _ _ (c .field)
-          (λ q w. O .KSTAMP (subst (λ y. S .state y ≡ InProgress) w (write-going S G t x g)))
-          (λ m. rw (← e) (O .P3CELL (same-hap (λ q. m (ap (λ y. S .terms y .field) q)) z))))
-          (λ m. O .P3CELL (same-hap (λ q. m (ap (λ y. spot (S .terms y)) q)) z))
+          (λ q w. O .OLD-ENDED (subst (λ y. S .state y ≡ InProgress) w (write-going S G t x g)))
+          (λ m. rw (← e) (O .OLD-GONE (same-hap (λ q. m (ap (λ y. S .terms y .field) q)) z))))
+          (λ m. O .OLD-GONE (same-hap (λ q. m (ap (λ y. spot (S .terms y)) q)) z))
 
       gstored : (i : ℕ) → i < c .n → S .info (c .rec i) ≡ u → upd (G .hap) x true u ≡ false
           → note t (write x) k S G .eff (c .rec i) < G .since u i
       gstored i h q = at (λ y. y ≡ false → note t (write x) k S G .eff (c .rec i) < G .since u i) (G .hap) _ _ u (λ e z. tf refl z)
           (λ n z. at-all (λ y. y < G .since u i) (S .terms x .n) (S .terms x .rec) _ (G .eff) (c .rec i) (λ j l e. absurd (n (mine j _ l e q)))
-          (λ m. O .GSTORED i h q z))
+          (λ m. O .CLEAR-HELD i h q z))

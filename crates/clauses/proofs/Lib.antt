@@ -2,7 +2,7 @@ pub mod Updates
 pub mod Memory
 pub mod History
 pub mod Clauses
-pub mod Events
+pub mod Rights
 pub mod Frame
 pub mod Lost
 pub mod Spared

@@ -15,7 +15,7 @@ use Rattle.clauses.proofs.Memory.{Shared, spot, apply}
 use Rattle.clauses.proofs.Memory.{Act, nop, hold, abort, freeze, close, write, commit, make}
 use Rattle.clauses.proofs.History.{Ghost, Reading, note}
 use Rattle.clauses.proofs.Clauses.{HeldTo, MarkedTo, OkOf, Off, Guard, At, LinkOk}
-use Rattle.clauses.proofs.Events.{CI, write-holds}
+use Rattle.clauses.proofs.Rights.{CI, write-holds}
 use Rattle.clauses.proofs.Frame.{stay-held-by, same-terms, stay-mark, stay-frozen, stay-hap, stay-held, stay-state, stay-ended, stay-final}
 use Rattle.clauses.proofs.Frame.{stay-anchor, stay-snap, took-now, now-suc}
 use Rattle.clauses.proofs.Lost.{stay-gone, stay-lost}

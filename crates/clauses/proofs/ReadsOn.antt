@@ -19,7 +19,7 @@ use Rattle.clauses.proofs.Updates.{same?, tf}
 use Rattle.clauses.proofs.Memory.{Shared, Table, apply, nop}
 use Rattle.clauses.proofs.History.{Ghost, Reading, note}
 use Rattle.clauses.proofs.Clauses.{InR, Snap, Anchor, At, Live, Fine}
-use Rattle.clauses.proofs.Events.{CA, CI, AI}
+use Rattle.clauses.proofs.Rights.{CA, CI, AI}
 use Rattle.clauses.proofs.Advanced.{Leads, none-below, by-none, reads}
 
 module _ (X : Table) (G : Ghost) (F : Fine X G) (t r : ℕ) (cs : List Cell) (c : Cell) (new : Link) where

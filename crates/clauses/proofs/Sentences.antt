@@ -8,7 +8,7 @@ use Rattle.clauses.proofs.Updates.{tf, leb-case}
 use Rattle.clauses.proofs.Memory.{Terms, spot, new-cell, write, make}
 use Rattle.clauses.proofs.History.{Ghost}
 use Rattle.clauses.proofs.Clauses.{OkOf, LostOf, Guard, Live}
-use Rattle.clauses.proofs.Events.{lost-frozen, lost-hap, not-hap, write-holds}
+use Rattle.clauses.proofs.Rights.{lost-frozen, lost-hap, not-hap, write-holds}
 use Rattle.clauses.proofs.Frame.{stay-hap}
 use Rattle.clauses.proofs.Lost.{stay-lost}
 use Rattle.clauses.proofs.Course.{Course, X, S, history, fine, guard, room, Unstarted, ever, started, since-start}
@@ -43,7 +43,7 @@ module _ (C : Course) where
         let g = write-guard k u E in
         let h′ : i < S C k .terms u .n = subst (λ (c : Terms). i < c .n) (sym P) h in
         let y : H k .eff (S C k .terms u .rec i) < H k .since u i =
-        g .ok .GSTORED i h′ (write-holds (S C k) (H k) (C .who k) u g i h′) (not-hap (S C k) (H k) (C .who k) u g) in
+        g .ok .CLEAR-HELD i h′ (write-holds (S C k) (H k) (C .who k) u g i h′) (not-hap (S C k) (H k) (C .who k) u g) in
         subst (λ x. H k .eff (c .rec i) < x) (ap (λ (f : ℕ → ℕ). f i) Q ∙ z) (subst (λ (c : Terms). H k .eff (c .rec i) < H k .since u i) P y)
 
     -- so nothing happens to a named record from the end of its linked read to the effect
@@ -61,7 +61,7 @@ module _ (C : Course) where
             let w : j < H k .eff (c .rec i) = subst (λ r. j < H k .eff r) y (eff-at C x j k b D i′ m) in
             omega (arith, last-effect E i e h z)
 
-    -- yes: Hap came by a write since the start
+    -- yes: it has happened by a write since the start
     pub happened : H k .hap u ≡ true → (j : ℕ) × (s < j) × (j < k) × Writes C j u
     happened y = hap-came C u (suc s) k later (started C s u c made .2) y
 

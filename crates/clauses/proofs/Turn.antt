@@ -11,7 +11,7 @@ use Rattle.clauses.proofs.Memory.{Terms, Shared, Table, apply}
 use Rattle.clauses.proofs.Memory.{Act, nop, hold, abort, freeze, close, write, commit, make}
 use Rattle.clauses.proofs.History.{Ghost, Reading, read-by, note}
 use Rattle.clauses.proofs.Clauses.{OkOf, Off, Guard, At, LinkOk, Live, Fresh, NotIn, Room, Fine}
-use Rattle.clauses.proofs.Events.{AI}
+use Rattle.clauses.proofs.Rights.{AI}
 use Rattle.clauses.proofs.Frame.{stay-state}
 use Rattle.clauses.proofs.Spared.{Spared}
 use Rattle.clauses.proofs.KeptByStarting.{made-ok}

@@ -13,7 +13,7 @@ use Rattle.rules.specs.Next.{next}
 use Rattle.clauses.proofs.Memory.{Terms, Shared, make}
 use Rattle.clauses.proofs.History.{Ghost}
 use Rattle.clauses.proofs.Clauses.{OkOf, LostOf, At, Live}
-use Rattle.clauses.proofs.Events.{lost-frozen}
+use Rattle.clauses.proofs.Rights.{lost-frozen}
 use Rattle.clauses.proofs.Course.{Course, X, S, history, fine, born, since-start}
 use Rattle.clauses.proofs.Came.{Sets}
 use Rattle.clauses.proofs.Sentences.{happened, because, never}

@@ -1,4 +1,4 @@
--- E1, E4, E5: who may set an info, end a change, alter a cell; from the clauses before the event.
+-- Who may set an info, end a change or write a cell, from the clauses before the act.
 use Prim.Native.Nat.{ℕ, _<_}
 use mathlib.Core.Path.{_≡_, refl, ap, subst}
 use mathlib.Core.Bool.{true, false}
@@ -35,7 +35,7 @@ lost-hap S G u O l h = lost-frozen S G u O l (O .HAPPENED h .0)
 pub lost-committed : {A : Type 0} (S : Shared) (G : Ghost) (u : ℕ) → OkOf S G u → LostOf S G u → S .state u ≡ Committed → A
 lost-committed S G u O l c = lost-hap S G u O l (O .COMMITTED c)
 
--- E1: whoever sets an info is InProgress, and had not held it
+-- whoever sets an info is InProgress, and had not held it
 pub not-held : (S : Shared) (G : Ghost) (t u i : ℕ) → Guard S G t (hold u i) → G .held u i ≡ false
 not-held S G t u i g = ⊎-elim (λ (e : G .held u i ≡ true). absurd (g .ok .GONE i (g .inside) e (g .at))) (λ f. f) (bool? (G .held u i))
 
@@ -53,9 +53,9 @@ hold-going S G t u i g = ⊎-elim (λ e. e)
     lost (j, h, p, q, m) = ⊎-elim (λ (e : i ≡ j). absurd (m (subst (λ x. S .info (S .terms u .rec x) ≡ S .terms u .infos x) e (g .at))))
         (λ n. ⊎-elim (λ l. tf (p i (omega arith)) f) (λ l. tf (g .prior j l) q) (leb-case i j)) (same? i j)
 
--- E5: whoever alters a cell is InProgress, has not happened, and holds all its records
+-- whoever writes a cell is InProgress, has not happened, and holds all its records
 pub not-hap : (S : Shared) (G : Ghost) (t u : ℕ) → Guard S G t (write u) → G .hap u ≡ false
-not-hap S G t u g = ⊎-elim (λ e. absurd (g .ok .P3CELL e (ap (λ (c : Cell). c .stamp) (g .is-old)))) (λ f. f) (bool? (G .hap u))
+not-hap S G t u g = ⊎-elim (λ e. absurd (g .ok .OLD-GONE e (ap (λ (c : Cell). c .stamp) (g .is-old)))) (λ f. f) (bool? (G .hap u))
 
 pub write-going : (S : Shared) (G : Ghost) (t u : ℕ) → Guard S G t (write u) → S .state u ≡ InProgress
 write-going S G t u g = ⊎-elim (λ e. e) (⊎-elim (λ c. tf (g .ok .COMMITTED c) (not-hap S G t u g))
