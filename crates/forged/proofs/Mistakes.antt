@@ -1,5 +1,5 @@
 -- THE MISTAKES of document 01: three fail demand 3, each in a run that is written down and in the field that its theorem uses. Testing
--- m1 before helping at L8 and dropping links on a refused call alter no order's outcome: it is demand 2's exact steps that stop them.
+-- m1 before helping at L8 and dropping links on a refused call are left to demand 2's exact steps and refusals.
 use Prim.Native.Nat.{ℕ}
 use native.Mathlib.Omega.{arith}
 use mathlib.Core.Bool.{true, false, true≢false, false≢true}

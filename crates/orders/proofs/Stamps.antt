@@ -38,7 +38,7 @@ module _ (p n : ℕ) (values : List ℕ) (ok : inRange p n (length values) ≡ t
 
   -- the effect that wrote a cell: of the change that its stamp names
   pub stamped-by : (j r f : ℕ) → r < m .n → f < 4 → cell next m calls j r f .stamp ≢ 0
-      → (c : Ch) × (i : ℕ) × (i < j) × Effect next m calls c i × (c .number ≡ cell next m calls j r f .stamp)
+      → (c : Ch) × (i : ℕ) × (i < j) × Effect next m calls c i × (c .number ≡ cell next m calls j r f .stamp) × (r ≡ spot next m calls c) × (f ≡ c .field)
   unfolding before
   stamped-by zero r f h l z =
       let k : cell next m calls 0 r f .stamp ≤ m .used = subst (λ (x : Record). cellAt (x .cells) f .stamp ≤ m .used) (is-in m calls R 0 r h)
@@ -46,8 +46,8 @@ module _ (p n : ℕ) (values : List ℕ) (ok : inRange p n (length values) ≡ t
       absurd (z (omega (arith, unused p n values ok)))
   stamped-by (suc j) r f h l z = ⊎-elim
       (λ (e : cell next m calls (suc j) r f ≡ cell next m calls j r f).
-      let (c, i, a, E, q) = stamped-by j r f h l (λ y. z (ap (λ (c : Cell). c .stamp) e ∙ y)) in
-      (c, i, omega arith, E, q ∙ ap (λ (c : Cell). c .stamp) (sym e)))
+      let (c, i, a, E, q, x, y) = stamped-by j r f h l (λ y. z (ap (λ (c : Cell). c .stamp) e ∙ y)) in
+      (c, i, omega arith, E, q ∙ ap (λ (c : Cell). c .stamp) (sym e), x, y))
       (λ (w : (c : Ch) × Effect next m calls c j × (r ≡ spot next m calls c) × (f ≡ c .field)). let (c, E, a, b) = w in (
         c,
         j,
@@ -55,6 +55,8 @@ module _ (p n : ℕ) (values : List ℕ) (ok : inRange p n (length values) ≡ t
         E,
         sym (ap (λ (c : Cell). c .stamp) (ap (λ r. cell next m calls (suc j) r f) a
             ∙ ap (λ f. cell next m calls (suc j) (spot next m calls c) f) b ∙ alters-its-field m calls R c j E .1)),
+        a,
+        b,
       ))
       (by-an-effect m calls R j r f h)
 
@@ -63,12 +65,12 @@ module _ (p n : ℕ) (values : List ℕ) (ok : inRange p n (length values) ≡ t
       → cell next m calls j (spot next m calls c) (c .field) ≢ record { value = c .new; stamp = c .number }
   new-every-time c k E j l e =
       let s = ap (λ (c : Cell). c .stamp) e in
-      let (d, i, a, D, q) = stamped-by j (spot next m calls c) (c .field) (spot-inside m calls R c) (field-inside m calls R c)
+      let (d, i, a, D, q, x, y) = stamped-by j (spot next m calls c) (c .field) (spot-inside m calls R c) (field-inside m calls R c)
       (λ z. nonzero (sym s ∙ z)) in
       let u : d .number ≡ c .number = q ∙ s in
       let same : d .start ≡ c .start = given-once p n values ok calls d c u in
       one-write (course m calls R) (c .number) i k (writes m calls R d i D ∙ ap write u) (writes m calls R c k E) (omega arith)
-      (λ x p q. alone m calls R c k (E .during) x (omega (arith, D .during .later)) q)
+      (λ z p q. alone m calls R c k (E .during) z (omega (arith, D .during .later)) q)
     where
       nonzero : c .number ≢ 0
       nonzero z = omega (arith, number-is m calls R c)
