@@ -3,7 +3,7 @@
 use Prim.Native.Nat.{ℕ, suc, _<_}
 use mathlib.Core.Path.{_≡_, refl, sym, ap, _∙_, subst}
 use mathlib.Core.Bool.{true, false, _&&_, true≢false, false≢true}
-use mathlib.Core.Logic.{_≢_, ⊎-elim}
+use mathlib.Core.Logic.{_⊎_, inl, inr, _≢_, ⊎-elim}
 use lib.Dec.{eqb}
 use borrow.Author.Tests.{eqb-true, eq-eqb}
 use Rattle.rules.specs.Words.{Machine, Call, Ask, AskLlx, AskScx, AskVlx, AskRead, AskStep, Record, Change, Task, Seen, Move}
@@ -20,14 +20,14 @@ use Rattle.clauses.proofs.Steps.{termsOf, actAt, Saw}
 use Rattle.clauses.proofs.Clauses.{Off, Live}
 use Rattle.clauses.proofs.Turn.{off}
 use Rattle.clauses.proofs.Course.{Course, X, S, turn}
-use Rattle.orders.specs.Demand.{before, place, Steps}
+use Rattle.orders.specs.Demand.{before, place, Steps, Starts}
 use Rattle.orders.proofs.View.{recordIn}
 use Rattle.orders.proofs.Seen.{saw}
 use Rattle.orders.proofs.Calls.{Passes, accepts}
-use Rattle.orders.proofs.Busy.{own-call, own-step}
+use Rattle.orders.proofs.Busy.{idle-or, own-call, own-step}
 use Rattle.orders.proofs.Run.{Run, course, inside, task-is}
 use Rattle.orders.proofs.Effects.{is-in, passed-steps, act-is}
-use Rattle.bounds.specs.Bounds.{isStep, stepOf, Starts}
+use Rattle.bounds.specs.Bounds.{isStep, stepOf}
 
 -- what counts as a STEP of t is one
 step-of : (t : ℕ) (ask : Ask) (by : ℕ) → isStep ask && eqb by t ≡ true → (ask ≡ AskStep) × (by ≡ t)
@@ -37,29 +37,8 @@ step-of t (AskVlx n) by h = absurd (false≢true h)
 step-of t (AskRead r f) by h = absurd (false≢true h)
 step-of t AskStep by h = (refl, eqb-true by t h)
 
-busy-is : (q : Place) → q ≢ Idle → isIdle q ≡ false
-busy-is Idle n = absurd (n refl)
-busy-is (L1 r) n = refl
-busy-is (L2 r m1) n = refl
-busy-is (L3 r m1 a) n = refl
-busy-is (L4 r m1 a s) n = refl
-busy-is (L5 r m1 a f) n = refl
-busy-is (L6 r m1 a) n = refl
-busy-is (L7 r m1 a) n = refl
-busy-is (L8 r m1 a) n = refl
-busy-is (L9 r) n = refl
-busy-is (L10 r b) n = refl
-busy-is (L11 r) n = refl
-busy-is (H1 u i after) n = refl
-busy-is (H2 u i after) n = refl
-busy-is (H3 u after) n = refl
-busy-is (H4 u after) n = refl
-busy-is (H5 u after) n = refl
-busy-is (H6 u i after) n = refl
-busy-is (H7 u after) n = refl
-busy-is (H8 u after) n = refl
-busy-is (Vlx n i) d = refl
-busy-is (Read r f) n = refl
+pub busy-is : (q : Place) → q ≢ Idle → isIdle q ≡ false
+busy-is q n = ⊎-elim (λ e. absurd (n e)) (λ h. h) (idle-or q)
 
 -- no start takes a number that is 0 or live
 pub not-taken : (C : Course) (k u : ℕ) → (u ≢ 0 → Live (X C k) u) → Off (C .act k) u

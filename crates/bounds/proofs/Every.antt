@@ -11,12 +11,15 @@ use Rattle.orders.proofs.Run.{Run}
 use Rattle.orders.proofs.FromFresh.{run}
 use Rattle.bounds.specs.Bounds.{Bounds}
 use Rattle.bounds.proofs.Most.{llx-most, vlx-most, read-most, scx-most}
+use Rattle.bounds.proofs.Ends.{begins, ends}
 use Rattle.bounds.proofs.UndisturbedScx.{scx-takes}
 use Rattle.bounds.proofs.UndisturbedLlx.{llx-takes}
 
 bounds : (m : Machine) (calls : ℕ → Call) → Run m calls → Bounds next m calls
 bounds m calls R =
     record {
+      begins = begins m calls R;
+      ends = ends m calls R;
       llx = llx-most m calls R;
       vlx = vlx-most m calls R;
       read = read-most m calls R;

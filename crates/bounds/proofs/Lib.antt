@@ -3,6 +3,7 @@ pub mod Rank
 pub mod Lower
 pub mod Along
 pub mod Count
+pub mod Ends
 pub mod Most
 pub mod UndisturbedLlx
 pub mod UndisturbedScx

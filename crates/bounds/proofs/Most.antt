@@ -5,7 +5,7 @@ use mathlib.Core.Path.{_≡_, refl, ap, _∙_, subst}
 use mathlib.Core.Logic.{inr, _≢_}
 use native.Mathlib.Omega.{arith}
 use native.Mathlib.Nat.{le-refl}
-use Rattle.rules.specs.Words.{Machine, Call, Ask, AskLlx, AskVlx, AskRead, Place, Idle, L1, H1, Vlx, Read, Own, Yes, Change, Seen}
+use Rattle.rules.specs.Words.{Machine, Call, Ask, AskLlx, AskScx, AskVlx, AskRead, Place, Idle, L1, H1, Vlx, Read, Own, Yes, Change, Seen}
 use Rattle.table.specs.Table.{taskAt}
 use Rattle.rules.specs.Access.{changeOf}
 use Rattle.rules.specs.Resume.{resume}
@@ -13,13 +13,13 @@ use Rattle.rules.specs.Next.{next}
 use Rattle.clauses.proofs.Memory.{Terms, Shared, apply}
 use Rattle.clauses.proofs.Steps.{termsOf, actAt, Saw}
 use Rattle.clauses.proofs.Course.{Course, X, S, history, fine, turn, started}
-use Rattle.orders.specs.Demand.{before, place, Going}
+use Rattle.orders.specs.Demand.{before, place, Going, Starts}
 use Rattle.orders.specs.Demand.{Change as Asked}
 use Rattle.orders.proofs.Calls.{Passes, obeyed}
 use Rattle.orders.proofs.Run.{Run, course, place-known, works-live}
 use Rattle.orders.proofs.Changes.{terms, makes}
 use Rattle.orders.proofs.Untouched.{task-inside}
-use Rattle.bounds.specs.Bounds.{size, Starts, own}
+use Rattle.bounds.specs.Bounds.{size, own}
 use Rattle.bounds.proofs.Marks.{all, all-bits}
 use Rattle.bounds.proofs.Rank.{rank, keeps}
 use Rattle.bounds.proofs.Lower.{lower}
@@ -80,11 +80,30 @@ module _ (m : Machine) (calls : ℕ → Call) (R : Run m calls) where
   unfolding rank
   read-most s t r f k B = from-start s t (AskRead r f) B (Read r f) (λ P. (obeyed (M s) (calls s) _ P .0, R .read-place s r f P)) k
 
-  pub scx-most : (c : Asked next m calls) (k : ℕ) → Going next m calls (c .start) (c .task) k
+  of-change : (c : Asked next m calls) (k : ℕ) → Going next m calls (c .start) (c .task) k
       → own next m calls (c .start) (c .task) k < 2 * c .n + size (c .closing) + 3
-  scx-most c k g =
+  of-change c k g =
       subst (λ x. own next m calls (c .start) (c .task) k < x)
       (ap (rank (S C (suc (c .start)))) (c .takes)
       ∙ rank-scx (S C (suc (c .start))) (c .number) _ (started C (c .start) (c .number) (terms m calls R c) (makes m calls R c) .0)
       ∙ ap (λ f. 2 * c .n + f + 3) (all-bits (c .closing)))
       (most (c .task) (task-inside m calls R c) (c .start) k g)
+
+  pub scx-most : (s t n r written field new k : ℕ) → Starts next m calls s t (AskScx n r written field new) → Going next m calls s t k
+      → own next m calls s t k < 2 * n + size r + 3
+  scx-most s t n r written field new k B g =
+      let P = passes m calls R s t _ B in
+      of-change (record {
+        start = s;
+        task = t;
+        n = n;
+        list = B .list;
+        closing = r;
+        written = written;
+        field = field;
+        new = new;
+        number = M s .used + 1;
+        asks = B .asks;
+        accepted = B .accepted;
+        takes = begun m calls R s t _ B _ (obeyed (M s) (calls s) _ P .0) (R .scx-place s n r written field new P) .1;
+      }) k g

@@ -17,8 +17,8 @@ use Rattle.rules.specs.Start.{start}
 use Rattle.rules.specs.Refuse.{linkedAt, rulesOf}
 use Rattle.rules.specs.Next.{refused, started, next}
 use Rattle.clauses.proofs.Rights.{AI}
-use Rattle.orders.specs.Demand.{before, said, place, mark, info, Change, named}
-use Rattle.bounds.specs.Bounds.{own, Starts, UndisturbedScx, UndisturbedLlx}
+use Rattle.orders.specs.Demand.{before, said, place, mark, info, Change, named, Starts}
+use Rattle.bounds.specs.Bounds.{own, UndisturbedScx, UndisturbedLlx}
 
 abbrev asks : List Ask
 asks = AskLlx 0 ∷ AskStep ∷ AskStep ∷ AskStep ∷ AskStep ∷ AskStep ∷ AskStep ∷ AskStep ∷ AskStep ∷ AskStep ∷ AskScx 1 1 0 0 7 ∷ []
@@ -66,10 +66,25 @@ change =
       takes = scx-ran .1;
     }
 
-linked : (i : ℕ) → i < 1
-    → info next m calls 10 (named next m calls change i) ≡ linkAt (before next m calls 10) 0 (named next m calls change i) .info
-linked zero h = scx-ran .2 ∙ sym (scx-ran .3)
-linked (suc i) h = absurd (omega arith)
+-- until the SCX starts nobody takes hold
+free : (j : ℕ) → j < 11 → info next m calls j 0 ≡ 0
+unfolding tabulate freshRecords freshMachine fresh seen perform dropFirst settle accessAt moveAt step both given allBelow shape inShape start linkedAt rulesOf refused started next before own
+free zero l = refl
+free (suc zero) l = refl
+free (suc (suc zero)) l = refl
+free (suc (suc (suc zero))) l = refl
+free (suc (suc (suc (suc zero)))) l = refl
+free (suc (suc (suc (suc (suc zero))))) l = refl
+free (suc (suc (suc (suc (suc (suc zero)))))) l = refl
+free (suc (suc (suc (suc (suc (suc (suc zero))))))) l = refl
+free (suc (suc (suc (suc (suc (suc (suc (suc zero)))))))) l = refl
+free (suc (suc (suc (suc (suc (suc (suc (suc (suc zero))))))))) l = refl
+free (suc (suc (suc (suc (suc (suc (suc (suc (suc (suc zero)))))))))) l = refl
+free (suc (suc (suc (suc (suc (suc (suc (suc (suc (suc (suc j))))))))))) l = absurd (omega arith)
+
+since-read : (i j : ℕ) → i < 1 → j < 10 → info next m calls (suc j) (named next m calls change i) ≡ info next m calls j (named next m calls change i)
+since-read zero j h l = free (suc j) (omega arith) ∙ sym (free j (omega arith))
+since-read (suc i) j h l = absurd (omega arith)
 
 pub scx-undisturbed : (k : ℕ) → UndisturbedScx next m calls change k
-scx-undisturbed k = record { linked = linked; untouched = λ j l h n i q. absurd (n refl) }
+scx-undisturbed k = record { since-read = λ i e j h A a l. since-read i j h l; untouched = λ j l h n i q. absurd (n refl) }

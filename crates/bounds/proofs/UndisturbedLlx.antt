@@ -16,13 +16,13 @@ use Rattle.rules.specs.Refuse.{isIdle}
 use Rattle.rules.specs.Next.{next}
 use Rattle.clauses.proofs.Memory.{Shared, apply}
 use Rattle.clauses.proofs.Steps.{actAt, Saw}
-use Rattle.clauses.proofs.Frame.{stay-ended}
+use Rattle.clauses.proofs.Frame.{stay-ended, stay-open}
 use Rattle.clauses.proofs.Course.{Course, S, history, turn}
-use Rattle.orders.specs.Demand.{before, said, place, info, Going}
+use Rattle.orders.specs.Demand.{before, said, place, info, Going, Starts}
 use Rattle.orders.proofs.Calls.{Passes, did-is, obeyed}
 use Rattle.orders.proofs.Run.{Run, course}
 use Rattle.orders.proofs.Effects.{is-in}
-use Rattle.bounds.specs.Bounds.{stepOf, own, Starts, UndisturbedLlx}
+use Rattle.bounds.specs.Bounds.{stepOf, own, UndisturbedLlx}
 use Rattle.bounds.proofs.Along.{passes, begun, not-taken, left-in}
 use Rattle.bounds.proofs.Count.{Down, exactly}
 
@@ -108,13 +108,14 @@ module _ (m : Machine) (calls : ℕ → Call) (R : Run m calls) (s t r K : ℕ) 
     subst (λ q. Reads r a q 9) (sym (start .1)) at-l1,
   )
 
-  -- every other call leaves the mark and the info, and a state that is final stays so
+  -- every other call leaves the info, so no mark is set, and a state that is final stays so
   stays : (k n : ℕ) → Going next m calls s t k → k < K → Q (S C k) (at k) n → stepOf t (calls k) ≡ false → Q (S C (suc k)) (at k) n
   stays k n g c (f, p) h =
       let b = g .busy k (g .later) (le-refl k) in (
         (
-          left-in m calls R t tl k b (λ x. x .mark) r rl h (λ o. U .untouched k (g .later) c o .0) ∙ f .0,
-          left-in m calls R t tl k b (λ x. x .info) r rl h (λ o. U .untouched k (g .later) c o .1) ∙ f .1,
+          ap (λ (Z : Shared). Z .mark r) (turn C k .shared) ∙ stay-open (S C k) (history C k) (C .who k) (C .reads k) (C .act k) (turn C k .guard) r
+              (subst (λ a. S C k .state a ≢ InProgress) (sym (f .1)) (f .2)) (f .0),
+          left-in m calls R t tl k b (λ x. x .info) r rl h (λ o. U .untouched k (g .later) c o) ∙ f .1,
           subst (λ (Z : Shared). Z .state a ≢ InProgress) (sym (turn C k .shared))
               (stay-ended (S C k) (history C k) (C .who k) (C .reads k) (C .act k) (turn C k .guard) a
               (not-taken C k a (λ z. (z, inl (r, f .1)))) (f .2)),

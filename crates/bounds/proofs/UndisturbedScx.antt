@@ -3,7 +3,7 @@
 use Prim.Native.Nat.{ℕ, suc, _+_, _-_, _≤_, _<_}
 use mathlib.Core.Path.{_≡_, refl, sym, ap, _∙_, subst}
 use mathlib.Core.Bool.{Bool, true, false}
-use mathlib.Core.Logic.{inl, inr, _↔_}
+use mathlib.Core.Logic.{_⊎_, inl, inr, _↔_, _≢_, ⊎-elim}
 use lib.Dec.{ltb}
 use borrow.Author.Tests.{ltb-true, ltb-false, lt-ltb, eq-eqb}
 use native.Mathlib.Omega.{arith}
@@ -15,17 +15,18 @@ use Rattle.rules.specs.Access.{changeOf}
 use Rattle.rules.specs.Resume.{firstFrom, atMark, resume}
 use Rattle.rules.specs.Refuse.{isIdle}
 use Rattle.rules.specs.Next.{next}
-use Rattle.clauses.proofs.Updates.{upd-miss}
+use Rattle.clauses.proofs.Updates.{upd-miss, same?}
 use Rattle.clauses.proofs.Memory.{Terms, Shared, hold, make, apply}
 use Rattle.clauses.proofs.Clauses.{Made}
 use Rattle.clauses.proofs.Steps.{termsOf, is-stored, actAt, Saw}
 use Rattle.clauses.proofs.Course.{Course, S, history, turn, guard, since-start}
-use Rattle.orders.specs.Demand.{before, said, place, named, Going}
+use Rattle.clauses.proofs.Came.{Sets, took-came}
+use Rattle.orders.specs.Demand.{before, said, place, info, named, Going}
 use Rattle.orders.specs.Demand.{Change as Asked}
 use Rattle.orders.proofs.Run.{Run, course, task-is}
 use Rattle.orders.proofs.Changes.{terms, makes, alone}
 use Rattle.orders.proofs.Effects.{is-in, inside}
-use Rattle.orders.proofs.Untouched.{task-inside}
+use Rattle.orders.proofs.Untouched.{task-inside, read-of}
 use Rattle.orders.proofs.Working.{works-on}
 use Rattle.orders.proofs.Follows.{works}
 use Rattle.orders.proofs.Every.{demand3}
@@ -123,15 +124,28 @@ module _ (m : Machine) (calls : ℕ → Call) (R : Run m calls) (c : Asked next 
   made : Made (S C s) (history C s) (C .who s) u T
   made = guard C s (make u T) (makes m calls R c)
 
-  -- at the start every info is the one that is stored
+  -- nobody took hold since the linked reads, so at the start every info is the one that is stored
+  linked : (i : ℕ) → i < c .n → S C s .info (named next m calls c i) ≡ T .infos i
+  linked i h = ⊎-elim (λ e. e) (λ n. absurd (moved n (took-came C s r))) (same? (S C s .info r) (T .infos i))
+    where
+      r : ℕ
+      r = named next m calls c i
+
+      is : (k : ℕ) → S C k .info r ≡ info next m calls k r
+      is k = ap (λ (x : Record). x .info) (is-in m calls R k r (inside m calls R c i h))
+
+      moved : S C s .info r ≢ T .infos i
+          → (history C s .took r ≡ 0) ⊎ ((h : ℕ) × (h < s) × (history C s .took r ≡ suc h) × Sets C h (S C s .info r) r) → ⊥
+      moved n (inl z) = omega (arith, made .anchors i h .TAKEN n)
+      moved n (inr (j, l, z, D)) =
+          let (e, A, time) = read-of m calls R c i h in
+          D .from (is j ∙ sym (U .since-read i e j h A (omega (arith, made .anchors i h .TAKEN n)) l) ∙ sym (is (suc j)) ∙ D .to)
+
   unheld : (i : ℕ) → i < c .n → S C (suc s) .info (named next m calls c i) ≡ T .infos i
   unfolding apply
   unheld i h =
       ap (λ (Z : Shared). Z .info (named next m calls c i)) (turn C s .shared ∙ ap (λ b. apply b (S C s)) (makes m calls R c))
-      ∙ ap (λ (x : Record). x .info) (is-in m calls R s (named next m calls c i) (inside m calls R c i h)) ∙ U .linked i h ∙ sym stored
-    where
-      stored : T .infos i ≡ linkAt (before next m calls s) t (named next m calls c i) .info
-      stored = getD-tabulate 4 _ i 0 (omega (arith, made .shape .0)) ∙ rw (lt-ltb i (c .n) h) refl
+      ∙ linked i h
 
   first : Scx T u (S C (suc s)) (at (suc s)) (c .n + all T + 3)
   first = subst (λ q. Scx T u (S C (suc s)) q (c .n + all T + 3)) (sym (c .takes))

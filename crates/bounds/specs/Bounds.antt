@@ -4,13 +4,12 @@
 -- The theorem is `every-bound` in proofs/Every.antt: Bounds next (the fresh table) calls, for all calls.
 use Prim.Native.Nat.{ℕ, zero, suc, _+_, _*_, _/_, _%_, _<_}
 use mathlib.Core.Path.{_≡_}
-use mathlib.Core.Logic.{_↔_, _≢_}
+use mathlib.Core.Logic.{_⊎_, _↔_, _≢_}
 use mathlib.Core.Bool.{Bool, true, false, _&&_}
-use mathlib.Core.List.{List}
 use lib.Dec.{eqb, ltb}
 use Rattle.rules.specs.Words.{InProgress, Idle, Machine, Ask, AskLlx, AskScx, AskVlx, AskRead, AskStep, Call, Accepted, Snapshot, Yes, Out}
-use Rattle.table.specs.Table.{pick, changeAt, linkAt, stateOf}
-use Rattle.orders.specs.Demand.{before, said, place, mark, info, Change, named, Going}
+use Rattle.table.specs.Table.{pick, changeAt, stateOf}
+use Rattle.orders.specs.Demand.{before, said, place, mark, info, Steps, Starts, Change, named, LinkedRead, Going}
 
 -- how many records R has: the bits of places 0 to 3
 abbrev pub size : ℕ → ℕ
@@ -28,45 +27,44 @@ abbrev pub stepOf : ℕ → Call → Bool
 stepOf t e = isStep (e .ask) && eqb (e .task) t
 
 module _ (next : Machine → Call → Out) (m : Machine) (calls : ℕ → Call) where
-  -- call s is an accepted start by task t of what is asked
-  pub record Starts (s t : ℕ) (ask : Ask) : Type 0 where
-    pub list : List ℕ
-    pub asks : calls s ≡ record { task = t; ask = ask; list = list }
-    pub accepted : said next m calls s ≡ Accepted
-
   -- OWN STEPS: the STEPs of t among the calls after s and before k
   unfoldable pub own : ℕ → ℕ → ℕ → ℕ
   own s t zero = 0
   own s t (suc k) = pick (ltb s k && stepOf t (calls k)) (suc (own s t k)) (own s t k)
 
-  -- an undisturbed SCX: it starts with each record's info that of its link, and nobody else alters one until call k
+  -- an undisturbed SCX: from the end of each linked read to the start nobody alters the record's info, and from then until call k nobody
+  -- else does
   pub record UndisturbedScx (c : Change next m calls) (k : ℕ) : Type 0 where
-    pub linked : (i : ℕ) → i < c .n
-        → info next m calls (c .start) (named next m calls c i)
-        ≡ linkAt (before next m calls (c .start)) (c .task) (named next m calls c i) .info
+    pub since-read : (i e j : ℕ) → i < c .n → LinkedRead next m calls c (named next m calls c i) e → e < j → j < c .start
+        → info next m calls (suc j) (named next m calls c i) ≡ info next m calls j (named next m calls c i)
     pub untouched : (j : ℕ) → c .start < j → j < k → calls j .task ≢ c .task → (i : ℕ) → i < c .n
         → info next m calls (suc j) (named next m calls c i) ≡ info next m calls j (named next m calls c i)
 
-  -- an undisturbed LLX of r: at its start r is open and nobody holds it, and nobody else alters its mark or info until call k
+  -- an undisturbed LLX of r: at its start r is open and nobody holds it, and nobody else alters its info until call k
   pub record UndisturbedLlx (s t r k : ℕ) : Type 0 where
     pub no-mark : mark next m calls s r ≡ false
     pub not-held : stateOf (info next m calls s r) (changeAt (before next m calls s) (info next m calls s r)) ≢ InProgress
-    pub untouched : (j : ℕ) → s < j → j < k → calls j .task ≢ t
-        → (mark next m calls (suc j) r ≡ mark next m calls j r) × (info next m calls (suc j) r ≡ info next m calls j r)
+    pub untouched : (j : ℕ) → s < j → j < k → calls j .task ≢ t → info next m calls (suc j) r ≡ info next m calls j r
 
   pub record Bounds : Type 0 where
+    -- "an operation answers on its last access": a start leaves its task busy, and it is so until a STEP of its own answers; no STEP
+    -- before is refused
+    pub begins : (s t : ℕ) (ask : Ask) → Starts next m calls s t ask → isStep ask ≡ false → Going next m calls s t (suc s)
+    pub ends : (s t k : ℕ) → Going next m calls s t k
+        → (Going next m calls s t (suc k) × (stepOf t (calls k) ≡ true → said next m calls k ≡ Accepted))
+        ⊎ (Steps next m calls k t × (said next m calls k ≢ Accepted) × (place next m calls (suc k) t ≡ Idle))
     -- "LLX 39, VLX n, READ 1, SCX 2n + f + 3 where R has f records"
-    pub llx : (s t r k : ℕ) → Starts s t (AskLlx r) → Going next m calls s t k → own s t k < 39
-    pub vlx : (s t n k : ℕ) → Starts s t (AskVlx n) → Going next m calls s t k → own s t k < n
-    pub read : (s t r f k : ℕ) → Starts s t (AskRead r f) → Going next m calls s t k → own s t k < 1
-    pub scx : (c : Change next m calls) (k : ℕ) → Going next m calls (c .start) (c .task) k
-        → own (c .start) (c .task) k < 2 * c .n + size (c .closing) + 3
+    pub llx : (s t r k : ℕ) → Starts next m calls s t (AskLlx r) → Going next m calls s t k → own s t k < 39
+    pub vlx : (s t n k : ℕ) → Starts next m calls s t (AskVlx n) → Going next m calls s t k → own s t k < n
+    pub read : (s t r f k : ℕ) → Starts next m calls s t (AskRead r f) → Going next m calls s t k → own s t k < 1
+    pub scx : (s t n r written field new k : ℕ) → Starts next m calls s t (AskScx n r written field new) → Going next m calls s t k
+        → own s t k < 2 * n + size r + 3
     -- "An undisturbed SCX takes n + f + 3", and answers yes
     pub undisturbed-scx : (c : Change next m calls) (k : ℕ) → c .start < k → UndisturbedScx c k
         → Going next m calls (c .start) (c .task) k ↔ own (c .start) (c .task) k < c .n + size (c .closing) + 3
     pub answers-yes : (c : Change next m calls) (k : ℕ) → UndisturbedScx c k → Going next m calls (c .start) (c .task) k
         → place next m calls (suc k) (c .task) ≡ Idle → said next m calls k ≡ Yes
     -- "an undisturbed LLX on an open record nobody holds takes 9", and answers the snapshot
-    pub undisturbed-llx : (s t r k : ℕ) → Starts s t (AskLlx r) → s < k → UndisturbedLlx s t r k → Going next m calls s t k ↔ own s t k < 9
-    pub answers-snapshot : (s t r k : ℕ) → Starts s t (AskLlx r) → UndisturbedLlx s t r k → Going next m calls s t k
+    pub undisturbed-llx : (s t r k : ℕ) → Starts next m calls s t (AskLlx r) → s < k → UndisturbedLlx s t r k → Going next m calls s t k ↔ own s t k < 9
+    pub answers-snapshot : (s t r k : ℕ) → Starts next m calls s t (AskLlx r) → UndisturbedLlx s t r k → Going next m calls s t k
         → place next m calls (suc k) t ≡ Idle → said next m calls k ≡ Snapshot

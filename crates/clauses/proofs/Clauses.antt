@@ -177,7 +177,12 @@ Guard S G t (hold u i) = record {
 }
 Guard S G t (abort u) = record { ok : OkOf S G u; lost : LostOf S G u }
 Guard S G t (freeze u) = record { ok : OkOf S G u; all : HeldTo (G .held u) (S .terms u .n) }
-Guard S G t (close u i) = record { ok : OkOf S G u; frozen : S .frozen u ≡ true }
+Guard S G t (close u i) = record {
+  ok : OkOf S G u;
+  frozen : S .frozen u ≡ true;
+  inside : i < S .terms u .n;
+  closes : S .terms u .closes i ≡ true;
+}
 Guard S G t (write u) = record {
   ok : OkOf S G u;
   frozen : S .frozen u ≡ true;

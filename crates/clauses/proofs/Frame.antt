@@ -5,14 +5,14 @@ use mathlib.Core.Bool.{Bool, true, false}
 use mathlib.Core.Logic.{_⊎_, inl, inr, _≢_, ⊎-elim}
 use mathlib.Core.List.{List}
 use native.Mathlib.Omega.{arith}
-use Rattle.clauses.proofs.Updates.{upd, upd-hit, upd-miss, at, same?, at-all}
+use Rattle.clauses.proofs.Updates.{upd, upd-hit, upd-miss, at, same?, tf, at-all}
 use Rattle.rules.specs.Words.{Cell, InProgress}
 use Rattle.clauses.proofs.Memory.{Shared, apply}
 use Rattle.clauses.proofs.Memory.{Act, nop, hold, abort, freeze, close, write, commit, make}
 use Rattle.clauses.proofs.History.{Reading}
 use Rattle.clauses.proofs.History.{Ghost, note}
 use Rattle.clauses.proofs.Clauses.{Final, Snap, Anchor, Off, Guard}
-use Rattle.clauses.proofs.Rights.{st?, lost-hap, lost-committed, hold-going, write-going, write-holds}
+use Rattle.clauses.proofs.Rights.{st?, lost-frozen, lost-hap, lost-committed, hold-going, write-going, write-holds}
 
 module _ (S : Shared) (G : Ghost) (t : ℕ) (k : Reading) where
   -- what a change wrote down
@@ -116,6 +116,21 @@ module _ (S : Shared) (G : Ghost) (t : ℕ) (k : Reading) where
   no-return (write x) g r a h e = e
   no-return (commit x) g r a h e = e
   no-return (make x c) g r a h e = e
+
+  -- a record without a mark gets none while the change that its info names has ended
+  pub stay-open : (b : Act) → Guard S G t b → (r : ℕ) → S .state (S .info r) ≢ InProgress → S .mark r ≡ false → apply b S .mark r ≡ false
+  unfolding apply
+  stay-open nop g r h m = m
+  stay-open (hold x i) g r h m = m
+  stay-open (abort x) g r h m = m
+  stay-open (freeze x) g r h m = m
+  stay-open (close x i) g r h m = at (λ y. y ≡ false) (S .mark) _ _ r
+      (λ e. let ended : S .state x ≢ InProgress = subst (λ a. S .state a ≢ InProgress) (ap (S .info) e ∙ g .ok .CLOSED (g .frozen) i (g .inside) (g .closes)) h in
+      ⊎-elim (λ q. absurd (ended q)) (⊎-elim (λ c. tf (ap (S .mark) e ∙ g .ok .HAPPENED (g .ok .COMMITTED c) .1 i (g .inside) (g .closes)) m)
+      (λ a. lost-frozen S G x (g .ok) (g .ok .ABORTED a) (g .frozen))) (st? (S .state x))) (λ n. m)
+  stay-open (write x) g r h m = m
+  stay-open (commit x) g r h m = m
+  stay-open (make x c) g r h m = m
 
   -- an info that is some change's is never the dummy's again
   pub stay-held-by : (b : Act) → Guard S G t b → (r : ℕ) → S .info r ≢ 0 → apply b S .info r ≢ 0

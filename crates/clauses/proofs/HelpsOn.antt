@@ -174,7 +174,7 @@ module _ (X : Table) (G : Ghost) (F : Fine X G) (t r : ℕ) (cs : List Cell) (c 
 
       pub from-H6 : (i : ℕ) → At S G cs (H6 u i w) → Leads X G F t r cs c new (close u i) (on (atMark u (firstFrom rs (i + 1)) w))
       unfolding apply
-      from-H6 i h = acts X G F t r cs c new (close u i) _ _ (record { ok = O; frozen = h .1 }) tt (marks (i + 1) (h .0))
+      from-H6 i h = acts X G F t r cs c new (close u i) _ _ (record { ok = O; frozen = h .1; inside = h .2; closes = h .3 }) tt (marks (i + 1) (h .0))
           (at-mark (apply (close u i) S) (note t (close u i) k S G) _ u w rs (i + 1) same inside (O .SHAPE .0) (h .0) (h .1) to)
         where
           O : OkOf S G u

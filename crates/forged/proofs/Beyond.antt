@@ -23,6 +23,7 @@ module _ (m : Machine) (calls : ℕ → Call) where
   refuses-all-meets =
       record {
         is-a-change = λ k n r written field new e. inl (OutOfShape, refl);
+        is-a-read = λ k h. absurd (true≢false (ap isRefused h));
         once = λ c j k e f. absurd (no-change c);
         alters-its-field = λ c k e. absurd (no-change c);
         untouched = λ c k e i l. absurd (no-change c);

@@ -1,21 +1,26 @@
 -- The events of a run that is written down, each from tests that the prover computes.
-use Prim.Native.Nat.{ℕ, suc}
+use Prim.Native.Nat.{ℕ, suc, _-_}
 use native.Mathlib.Omega.{arith}
-use mathlib.Core.Path.{_≡_, refl, sym, ap, subst}
-use mathlib.Core.Bool.{Bool, true, false}
-use mathlib.Core.List.{List, []}
+use mathlib.Core.Path.{_≡_, refl, sym, ap, subst, _∙_}
+use mathlib.Core.Logic.{⊎-elim}
+use mathlib.Core.Bool.{Bool, true, false, not, true≢false}
+use mathlib.Core.List.{List}
+use lib.ListN.{replicate}
 use lib.Dec.{eqb, ltb}
 use borrow.Author.Tests.{ltb-true, eqb-false, eq-eqb}
-use Rattle.rules.specs.Words.{After, Own, L6, H1, H7, Machine, Call, Accepted, Snapshot, Out}
-use Rattle.table.specs.Table.{noChange, cellAt, recordAt, changeAt, taskAt, linkAt, sameCell}
-use Rattle.rules.specs.Claim.{both}
-use Rattle.rules.proofs.Exact.{both-is, both-on}
-use Rattle.rules.specs.Access.{changeOf, accessOf, recordOf}
-use Rattle.rules.specs.Next.{scx, stepping}
+use Rattle.rules.specs.Words.{After, Own, H1, H7, Machine, Call, Accepted, Snapshot, Out}
+use Rattle.table.specs.Table.{cellAt, recordAt, changeAt, taskAt, linkAt, sameCell}
+use Rattle.rules.specs.Claim.{both, allBelow}
+use Rattle.rules.proofs.Exact.{both-is, both-on, all-is}
+use Rattle.rules.specs.Access.{changeOf}
+use Rattle.rules.specs.Refuse.{isIdle}
+use Rattle.rules.specs.Next.{llx, scx, stepping}
 use Rattle.orders.specs.Demand.{Brings, leads, answers, before, said, place, cell, info, Steps, Change, named, spot}
-use Rattle.orders.specs.Demand.{During, Effect, Holds, Snap, LinkedRead, Verdict}
-use Rattle.forged.specs.Places.{isScx}
-use Rattle.forged.proofs.Through.{throughout, throughout-is, silent, silent-is}
+use Rattle.orders.specs.Demand.{During, Effect, Holds, Going, Snap, LinkedRead, Verdict}
+use Rattle.orders.proofs.Busy.{idle-or}
+use Rattle.clauses.proofs.Updates.{bool?}
+use Rattle.forged.specs.Places.{isScx, isLlx}
+use Rattle.forged.proofs.Through.{scan-on, throughout, throughout-is, silent, silent-is}
 use Rattle.forged.proofs.Tests.{isRefused, isSnapshot, not-refused, not-same, sameList, same-list, sameLink, same-link}
 
 -- THE TESTS, of a call and the table before it
@@ -34,11 +39,18 @@ module _ (next : Machine → Call → Out) (m : Machine) (calls : ℕ → Call) 
       let r = spot next m calls c in
       sameCell (cellAt (recordAt (next x (calls k) .m) r .cells) (c .field)) (cellAt (recordAt x r .cells) (c .field))
 
+  -- t is busy after call s, up to call k; call s asks for an LLX of r by t, which then is busy up to call k
+  abbrev pub busy : ℕ → ℕ → ℕ → Bool
+  busy t s k = throughout next m calls (λ j x. not (isIdle (taskAt x t .place))) s (suc k)
+
+  abbrev pub reads : ℕ → ℕ → ℕ → ℕ → Bool
+  reads t r k s = both (both (isLlx r (calls s .ask)) (eqb (calls s .task) t)) (busy t s k)
+
   -- call k is t's and ends with a snapshot of r
   abbrev pub snaps : ℕ → ℕ → ℕ → Machine → Bool
   snaps t r k x =
       both (both (eqb (calls k .task) t) (isSnapshot (next x (calls k) .answer)))
-      (eqb (recordOf (accessOf (taskAt x t .place) noChange [])) r)
+      (not (allBelow k (λ s. not (reads t r k s))))
 
   -- t's link to r is as in the table y
   abbrev pub stays : ℕ → ℕ → Machine → ℕ → Machine → Bool
@@ -131,22 +143,43 @@ module _ {next : Machine → Call → Out} {m : Machine} {calls : ℕ → Call} 
   verdict c k t after b w s h e =
       record { during = during c k w; by = t; after = after; steps = steps next m calls k t s; brings = h; ends = e }
 
-  pub snaps-is : (t r j : ℕ) → Snap next m calls j t r → snaps next m calls t r j (before next m calls j) ≡ true
-  unfolding both
-  snaps-is t r j s = rw (s .answer, s .at-l6, eq-eqb (calls j .task) t (s .steps .by)) (eq-eqb r r refl)
+  is-busy : (t s k : ℕ) → Going next m calls s t k → busy next m calls t s k ≡ true
+  is-busy t s k g = scan-on next m calls _ (suc s) (suc k - suc s) (λ j l1 l2. ap not (⊎-elim
+      (λ i. absurd (g .busy j l1 (omega (arith, g .later)) i)) (λ b. b) (idle-or (place next m calls j t))))
 
-  pub linked : (c : Change next m calls) (r e : ℕ) (m1 : Bool) (a : ℕ) → ltb e (c .start) ≡ true → going next m calls e (c .task)
-      → place next m calls e (c .task) ≡ L6 r m1 a
+  pub snaps-is : (t r j : ℕ) → Snap next m calls j t r → snaps next m calls t r j (before next m calls j) ≡ true
+  snaps-is t r j s =
+      let k = s .start in
+      let asks = s .starts .asks in
+      both-on (both (eqb (calls j .task) t) (isSnapshot (said next m calls j))) (not (allBelow j (λ i. not (reads next m calls t r j i))))
+      (both-on (eqb (calls j .task) t) (isSnapshot (said next m calls j)) (eq-eqb (calls j .task) t (s .steps .by)) (ap isSnapshot (s .answer)))
+      (⊎-elim (λ h. absurd (true≢false (sym (all-is j (λ i. not (reads next m calls t r j i)) h k (s .going .later)) ∙ ap not
+      (both-on (both (isLlx r (calls k .ask)) (eqb (calls k .task) t)) (busy next m calls t k j)
+      (both-on (isLlx r (calls k .ask)) (eqb (calls k .task) t) (ap (λ x. isLlx r (x .ask)) asks ∙ eq-eqb r r refl)
+      (eq-eqb (calls k .task) t (ap (λ x. x .task) asks))) (is-busy t k j (s .going))))))
+      (λ h. ap not h) (bool? (allBelow j (λ i. not (reads next m calls t r j i)))))
+
+  pub linked : (c : Change next m calls) (r s e : ℕ) → calls s ≡ llx (c .task) r → said next m calls s ≡ Accepted → ltb s e ≡ true
+      → busy next m calls (c .task) s e ≡ true → ltb e (c .start) ≡ true → going next m calls e (c .task)
       → said next m calls e ≡ Snapshot
       → silent next m calls (snaps next m calls (c .task) r) e (c .start) ≡ true
       → throughout next m calls (stays next m calls (c .task) r (before next m calls (suc e))) e (suc (c .start)) ≡ true
       → sameList (linkAt (before next m calls (suc e)) (c .task) r .cells) (next (before next m calls e) (calls e) .cells) ≡ true
       → LinkedRead next m calls c r e
-  linked c r e m1 a l s q x only stands saw =
+  linked c r s e asks acc f b l g x only stands saw =
       let y = before next m calls (suc e) in
       record {
         before-start = ltb-true e (c .start) l;
-        ends = record { m1 = m1; a = a; steps = steps next m calls e (c .task) s; at-l6 = q; answer = x };
+        ends = record {
+          start = s;
+          starts = record { list = replicate 4 0; asks = asks; accepted = acc };
+          going = record {
+            later = ltb-true s e f;
+            busy = λ j l1 l2 i. true≢false (sym (throughout-is next m calls _ s (suc e) b j l1 (omega arith)) ∙ ap (λ q. not (isIdle q)) i);
+          };
+          steps = steps next m calls e (c .task) g;
+          answer = x;
+        };
         last = λ j l1 l2 h. silent-is next m calls (snaps next m calls (c .task) r) e (c .start) only j l1 l2 (snaps-is (c .task) r j h);
         saw = same-list (linkAt y (c .task) r .cells) (next (before next m calls e) (calls e) .cells) saw;
         stands = λ j l1 l2.

@@ -10,3 +10,4 @@ pub mod Mistakes
 pub mod Shams
 pub mod Others
 pub mod Beyond
+pub mod Cached

@@ -1,14 +1,14 @@
 -- A test of every call of a stretch of a run, and of the table before it, computed in one pass.
 use Prim.Native.Nat.{ℕ, zero, suc, _+_, _-_, _<_, _≤_}
 use native.Mathlib.Omega.{arith}
-use native.Mathlib.Nat.{eq-or-lt-of-le}
-use mathlib.Core.Path.{_≡_, sym, subst, _∙_}
+use native.Mathlib.Nat.{le-refl, eq-or-lt-of-le}
+use mathlib.Core.Path.{_≡_, refl, sym, subst, _∙_}
 use mathlib.Core.Logic.{⊎-elim}
 use mathlib.Core.Bool.{Bool, true, not, true≢false}
 use borrow.Author.Tests.{not-true}
 use Rattle.rules.specs.Words.{Machine, Call, Out}
 use Rattle.rules.specs.Claim.{both}
-use Rattle.rules.proofs.Exact.{both-is}
+use Rattle.rules.proofs.Exact.{both-is, both-on}
 use Rattle.orders.specs.Demand.{before}
 
 module _ (next : Machine → Call → Out) (m : Machine) (calls : ℕ → Call) where
@@ -26,6 +26,13 @@ module _ (next : Machine → Call → Out) (m : Machine) (calls : ℕ → Call) 
       ⊎-elim (λ (e : k ≡ j). subst (λ i. p i (before next m calls i) ≡ true) e (q .0))
       (λ (l : k < j). scan-is p (suc k) n (q .1) j l (omega arith))
       (eq-or-lt-of-le l1)
+
+  pub scan-on : (p : ℕ → Machine → Bool) (k n : ℕ) → ((j : ℕ) → k ≤ j → j < k + n → p j (before next m calls j) ≡ true)
+      → scan p k n (before next m calls k) ≡ true
+  unfolding scan before
+  scan-on p k zero h = refl
+  scan-on p k (suc n) h = both-on (p k (before next m calls k)) (scan p (suc k) n (before next m calls (suc k))) (h k (le-refl k) (omega arith))
+      (scan-on p (suc k) n (λ j l1 l2. h j (omega arith) (omega arith)))
 
   -- p of every call between a and k; of none
   abbrev pub throughout : (ℕ → Machine → Bool) → ℕ → ℕ → Bool

@@ -4,12 +4,14 @@ use Prim.Native.Nat.{ℕ, zero, suc, _+_}
 use mathlib.Core.Bool.{Bool, true, false}
 use lib.Dec.{eqb, ltb}
 use Rattle.rules.specs.Words.{State, InProgress, Committed, Aborted, Cell, Place, H4, H5, H6, H7, H8, Seen, Move}
-use Rattle.rules.specs.Words.{Access, Nothing, Hold, Write, Commit, Machine, Out, Call, Yes, OutOfShape}
-use Rattle.table.specs.Table.{pick, noCells, cellAt, recordAt, changeAt, taskAt}
+use Rattle.rules.specs.Words.{Access, Nothing, Hold, Write, Commit, Machine, Out, Call, Yes, OutOfShape, Snapshot, Idle}
+use Rattle.rules.specs.Words.{Ask, AskLlx, AskScx, AskVlx, AskRead, AskStep}
+use Rattle.rules.specs.Start.{atPlace}
+use Rattle.table.specs.Table.{pick, noCells, cellAt, recordAt, changeAt, taskAt, linkAt}
 use Rattle.rules.specs.Access.{changeOf, recordOf}
 use Rattle.rules.specs.Perform.{sawBit, sawNumber}
 use Rattle.rules.specs.Resume.{on, verdict, firstFrom}
-use Rattle.rules.specs.Step.{step}
+use Rattle.rules.specs.Step.{accessAt, step}
 use Rattle.rules.specs.Refuse.{idleAt}
 use Rattle.rules.specs.Next.{refused, started, next}
 use Rattle.forged.specs.Patched.{as-it-is, stepBy, nextBy}
@@ -134,3 +136,23 @@ unused m =
 
 unfoldable pub twice-given : Machine → Call → Out
 twice-given m e = pick (pick (isScx (e .ask)) (eqb (m .used) 1) false) (started (unused m) (e .task) (e .ask) (e .list)) (next m e)
+
+-- an LLX of a record that the task has a link to: the link stays, and the last cell read answers a snapshot that stores none
+abbrev pub relink : Machine → Machine → Machine
+relink m x = record { p = x .p; n = x .n; used = x .used; records = x .records; changes = x .changes; tasks = x .tasks; links = m .links }
+
+abbrev pub stepCached : Machine → ℕ → Out
+stepCached m t =
+    let o = step m t in
+    pick (pick (isL 6 (taskAt (o .m) t .place)) (linkAt m t (recordOf (accessAt m t)) .there) false)
+    (record { m = atPlace (o .m) t Idle (taskAt (o .m) t .list); answer = Snapshot; cells = taskAt (o .m) t .cells }) o
+
+abbrev pub keepLink : Ask → Machine → ℕ → Out → Out
+keepLink (AskLlx r) m t o = pick (linkAt m t r .there) (record { m = relink m (o .m); answer = o .answer; cells = o .cells }) o
+keepLink (AskScx n r written field new) m t o = o
+keepLink (AskVlx n) m t o = o
+keepLink (AskRead r f) m t o = o
+keepLink AskStep m t o = o
+
+unfoldable pub cached : Machine → Call → Out
+cached m e = keepLink (e .ask) m (e .task) (nextBy stepCached m e)

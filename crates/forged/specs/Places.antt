@@ -67,3 +67,10 @@ isScx (AskScx n r written field new) = true
 isScx (AskVlx n) = false
 isScx (AskRead r f) = false
 isScx AskStep = false
+
+abbrev pub isLlx : ℕ → Ask → Bool
+isLlx x (AskLlx r) = eqb r x
+isLlx x (AskScx n r written field new) = false
+isLlx x (AskVlx n) = false
+isLlx x (AskRead r f) = false
+isLlx x AskStep = false

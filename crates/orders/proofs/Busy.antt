@@ -6,8 +6,9 @@ use mathlib.Core.Logic.{_⊎_, inl, inr, ⊎-elim, ⊎-map, _≢_}
 use native.Mathlib.Omega.{arith}
 use borrow.Author.Tests.{lt-ltb}
 use Rattle.rules.specs.Words.{Machine, Ask, AskLlx, AskScx, AskVlx, AskRead, AskStep, Call, Check, Passed, Failed, Refusal}
+use Rattle.rules.specs.Words.{Place, Idle, L1, L2, L3, L4, L5, L6, L7, L8, L9, L10, L11, H1, H2, H3, H4, H5, H6, H7, H8, Vlx, Read}
 use Rattle.table.specs.Table.{taskAt}
-use Rattle.rules.specs.Refuse.{check, rulesOf, idleAt}
+use Rattle.rules.specs.Refuse.{isIdle, check, rulesOf, idleAt}
 use Rattle.rules.specs.Shape.{shape, inShape, InShape}
 use Rattle.rules.specs.Next.{refused, answered, next}
 use Rattle.rules.proofs.Exact.{passes}
@@ -16,6 +17,31 @@ use Rattle.clauses.proofs.Updates.{same?}
 use Rattle.orders.proofs.Frames.{tasks-stay}
 use Rattle.orders.proofs.Calls.{Passes, obeyed}
 use Rattle.orders.proofs.Run.{task-in}
+
+-- a place is idle or busy
+pub idle-or : (q : Place) → (q ≡ Idle) ⊎ (isIdle q ≡ false)
+idle-or Idle = inl refl
+idle-or (L1 r) = inr refl
+idle-or (L2 r m1) = inr refl
+idle-or (L3 r m1 a) = inr refl
+idle-or (L4 r m1 a s) = inr refl
+idle-or (L5 r m1 a f) = inr refl
+idle-or (L6 r m1 a) = inr refl
+idle-or (L7 r m1 a) = inr refl
+idle-or (L8 r m1 a) = inr refl
+idle-or (L9 r) = inr refl
+idle-or (L10 r b) = inr refl
+idle-or (L11 r) = inr refl
+idle-or (H1 u i after) = inr refl
+idle-or (H2 u i after) = inr refl
+idle-or (H3 u after) = inr refl
+idle-or (H4 u after) = inr refl
+idle-or (H5 u after) = inr refl
+idle-or (H6 u i after) = inr refl
+idle-or (H7 u after) = inr refl
+idle-or (H8 u after) = inr refl
+idle-or (Vlx n i) = inr refl
+idle-or (Read r f) = inr refl
 
 -- its own call is a step that passes, or it is none and leaves the table as it came
 abbrev Idles : Machine → Call → Machine → Type 0

@@ -12,6 +12,7 @@ use Rattle.orders.proofs.Run.{Run}
 use Rattle.orders.proofs.FromFresh.{run}
 use Rattle.orders.proofs.Changes.{is-a-change}
 use Rattle.orders.proofs.Effects.{once, alters-its-field, by-an-effect, closed}
+use Rattle.orders.proofs.Snaps.{is-a-read}
 use Rattle.orders.proofs.Untouched.{untouched}
 use Rattle.orders.proofs.Verdicts.{yes-after, no-never, agree, no-because}
 use Rattle.orders.proofs.Working.{finishes, not-taken}
@@ -20,6 +21,7 @@ pub demand3 : (m : Machine) (calls : ℕ → Call) → Run m calls → Demand3 n
 demand3 m calls R =
     record {
       is-a-change = is-a-change m calls R;
+      is-a-read = is-a-read m calls R;
       once = once m calls R;
       alters-its-field = alters-its-field m calls R;
       untouched = untouched m calls R;

@@ -156,13 +156,14 @@ module _ (p n : ℕ) (values : List ℕ) (ok : inRange p n (length values) ≡ t
     counts zero = (refl, refl)
     counts (suc k) = let (a, b) = same-counts (M k) (calls k) in let (c, d) = counts k in (a ∙ c, b ∙ d)
 
-    past : (k t : ℕ) → from .p ≤ t → taskAt (M k) t .place ≡ Idle
+    all-idle : (t : ℕ) → taskAt (M 0) t .place ≡ Idle
     unfolding before freshMachine
-    past zero t h = rw fresh-is (all-idle t)
-      where
-        all-idle : (t : ℕ) → getD (replicate 8 idleTask) t noTask .place ≡ Idle
-        all-idle t = ⊎-elim (λ h. ap (λ (x : Task). x .place) (List·getD-eq-default (replicate 8 idleTask) noTask h))
-            (λ h. ap (λ (x : Task). x .place) (getD-replicate 8 t idleTask noTask h)) (leb-case 8 t)
+    all-idle t = rw fresh-is (⊎-elim (λ h. ap (λ (x : Task). x .place) (List·getD-eq-default (replicate 8 idleTask) noTask h))
+        (λ h. ap (λ (x : Task). x .place) (getD-replicate 8 t idleTask noTask h)) (leb-case 8 t))
+
+    past : (k t : ℕ) → from .p ≤ t → taskAt (M k) t .place ≡ Idle
+    unfolding before
+    past zero t h = all-idle t
     past (suc k) t h = ap (λ (x : Task). x .place) (past-stays (M k) (calls k) t (subst (λ p. p ≤ t) (sym (counts k .0)) h)) ∙ past k t h
 
     -- where a task's own call leaves it
@@ -193,6 +194,7 @@ module _ (p n : ℕ) (values : List ℕ) (ok : inRange p n (length values) ≡ t
       shaped = λ k. fine (M k) (in-shape k);
       same-p = λ k. counts k .0;
       same-n = λ k. counts k .1;
+      idle = all-idle;
       past = past;
       snapshots = snapshots;
       begins = fresh-clauses;

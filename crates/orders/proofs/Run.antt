@@ -30,7 +30,8 @@ pub record Run (m : Machine) (calls : ℕ → Call) : Type 0 where
   pub turns : (k : ℕ) (G : Ghost) → Clauses (view (before next m calls k)) G
       → Turn (view (before next m calls k)) (view (before next m calls (suc k))) G (calls k .task) (did (before next m calls k) (calls k))
       (reading (before next m calls k) (calls k))
-  -- tasks past P are idle
+  -- at first all tasks are idle, and those past P for good
+  pub idle : (t : ℕ) → taskAt (before next m calls 0) t .place ≡ Idle
   pub past : (k t : ℕ) → m .p ≤ t → taskAt (before next m calls k) t .place ≡ Idle
   -- the cells of a snapshot are those of the link that it stores
   pub snapshots : (k : ℕ) → Passes (before next m calls k) (calls k) AskStep → moveAt (before next m calls k) (calls k .task) .store ≡ true

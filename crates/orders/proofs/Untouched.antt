@@ -19,6 +19,7 @@ use Rattle.orders.specs.Demand.{before, Steps, Change, named, Names, Eff
 use Rattle.orders.proofs.View.{linkIn}
 use Rattle.orders.proofs.Calls.{obeyed, reading-is, snapped, snap-ends}
 use Rattle.orders.proofs.Run.{Run, course, link-in}
+use Rattle.orders.proofs.Snaps.{snap-of, read-is}
 use Rattle.orders.proofs.Changes.{by-task, passes, terms, makes, alone}
 use Rattle.orders.proofs.Effects.{cell-is, inside, step-passes, passed-steps, writes, terms-at}
 
@@ -33,23 +34,8 @@ module _ (m : Machine) (calls : ℕ → Call) (R : Run m calls) where
   Ch = Change next m calls
 
   -- the end of a linked read, as the statement and as the course have it
-  snap-of : (e t r : ℕ) → Ends C e t r → Snap next m calls e t r
-  snap-of e t r E =
-      let (P, at, said) = snapped (M e) (calls e) (E .ends) in
-      let (r′, m1, a, q, of) = at in
-      record {
-        m1 = m1;
-        a = a;
-        steps = subst (λ t. Steps next m calls e t) (E .by) (passed-steps m calls R e P);
-        answer = said;
-        at-l6 = subst (λ t. taskAt (M e) t .place ≡ L6 r m1 a) (E .by) (q ∙ ap (λ r. L6 r m1 a) (sym of ∙ E .of));
-      }
-
   ends-of : (e t r : ℕ) → Snap next m calls e t r → Ends C e t r
-  ends-of e t r B =
-      let (a, b) = snap-ends (M e) (calls e) (step-passes m calls R e t (B .steps)) r (B .m1) (B .a)
-      (ap (λ t. taskAt (M e) t .place) (B .steps .by) ∙ B .at-l6) (B .answer) in
-      record { by = B .steps .by; ends = a; of = b }
+  ends-of e t r B = let (w, h, q) = read-is m calls R e t r B in record { by = w; ends = h; of = q }
 
   -- its cells are those that the call answers
   snap-cells : (e t r : ℕ) → Ends C e t r → linkIn (M (suc e)) t r .cells ≡ next (M e) (calls e) .cells
@@ -89,7 +75,7 @@ module _ (m : Machine) (calls : ℕ → Call) (R : Run m calls) where
         e,
         record {
           before-start = A .before;
-          ends = snap-of e (c .task) r (A .ended);
+          ends = snap-of m calls R e (c .task) r (A .ended .by) (A .ended .ends) (A .ended .of);
           last = λ j a b B. A .last j a b (ends-of j (c .task) r B);
           saw = ap (λ (k : Link). k .cells) (sym (link-is c (suc e) i h)) ∙ snap-cells e (c .task) r (A .ended);
           stands = λ j a b. let q = sym (link-is c j i h) ∙ A .stands j a b ∙ link-is c (suc e) i h in

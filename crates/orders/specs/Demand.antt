@@ -8,8 +8,8 @@ use mathlib.Core.Logic.{_⊎_, _≢_}
 use mathlib.Core.Bool.{Bool, true, false}
 use mathlib.Core.List.{List}
 use lib.ListN.{getD}
-use Rattle.rules.specs.Words.{Cell, After, Own, AtL8, AtL11, Place, Idle, L6, L9, H1, H2, H3, H4, H5, H6, H7, H8, Machine, Out}
-use Rattle.rules.specs.Words.{Call, AskScx, AskStep, Refusal, Answer, Accepted, Snapshot, Finalized, Fail, Yes, No, Refused}
+use Rattle.rules.specs.Words.{Cell, After, Own, AtL8, AtL11, Place, Idle, L9, H1, H2, H3, H4, H5, H6, H7, H8, Machine, Out}
+use Rattle.rules.specs.Words.{Ask, Call, AskLlx, AskScx, AskStep, Refusal, Answer, Accepted, Snapshot, Finalized, Fail, Yes, No, Refused}
 use Rattle.table.specs.Table.{cellAt, recordAt, changeAt, taskAt, linkAt}
 
 -- "H3 .. yes gives verdict yes", "H4 .. verdict no", "H8 .. verdict yes": the verdict on u that a step from a place brings
@@ -74,6 +74,17 @@ module _ (next : Machine → Call → Out) (m : Machine) (calls : ℕ → Call) 
     pub by : calls k .task ≡ t
     pub accepted : (why : Refusal) → said k ≢ Refused why
 
+  -- call s is an accepted start by task t of what is asked
+  pub record Starts (s t : ℕ) (ask : Ask) : Type 0 where
+    pub list : List ℕ
+    pub asks : calls s ≡ record { task = t; ask = ask; list = list }
+    pub accepted : said s ≡ Accepted
+
+  -- the operation that t started at s is in progress before call k: t has been busy since
+  pub record Going (s t k : ℕ) : Type 0 where
+    pub later : s < k
+    pub busy : (j : ℕ) → s < j → j ≤ k → place j t ≢ Idle
+
   -- A CHANGE: an accepted start of an SCX, with what it asks for and the number that it takes
   pub record Change : Type 0 where
     pub start : ℕ
@@ -131,10 +142,10 @@ module _ (next : Machine → Call → Out) (m : Machine) (calls : ℕ → Call) 
 
   -- call k ends an LLX of r by t with a snapshot
   pub record Snap (k t r : ℕ) : Type 0 where
-    pub m1 : Bool
-    pub a : ℕ
+    pub start : ℕ
+    pub starts : Starts start t (AskLlx r)
+    pub going : Going start t k
     pub steps : Steps k t
-    pub at-l6 : place k t ≡ L6 r m1 a
     pub answer : said k ≡ Snapshot
 
   -- THE LINKED READ of r for c ended at e: the task's last snapshot of r before the start. Its four cells are in the link, which stands
@@ -160,15 +171,12 @@ module _ (next : Machine → Call → Out) (m : Machine) (calls : ℕ → Call) 
   abbrev pub Still : ℕ → ℕ → Type 0
   Still k r = (f : ℕ) → cell (suc k) r f ≡ cell k r f
 
-  -- the operation that t started at s is in progress before call k: t has been busy since
-  pub record Going (s t k : ℕ) : Type 0 where
-    pub later : s < k
-    pub busy : (j : ℕ) → s < j → j ≤ k → place j t ≢ Idle
-
   pub record Demand3 : Type 0 where
     -- every SCX is refused or is a change
     pub is-a-change : (k n closing written field new : ℕ) → calls k .ask ≡ AskScx n closing written field new
         → ((why : Refusal) × (said k ≡ Refused why)) ⊎ ((c : Change) × (c .start ≡ k))
+    -- every snapshot ends an LLX
+    pub is-a-read : (k : ℕ) → said k ≡ Snapshot → (r : ℕ) × Snap k (calls k .task) r
     -- "A change that takes effect alters its one field exactly once": one effect at most, from the cell in its link to the new value with
     -- the change's number
     pub once : (c : Change) (j k : ℕ) → Effect c j → Effect c k → j ≡ k
