@@ -5,10 +5,9 @@ use mathlib.Core.Bool.{Bool, true, false, not, true≢false, false≢true}
 use mathlib.Core.Logic.{_⊎_, inl, inr, _≢_, ⊎-elim}
 use native.Mathlib.Omega.{arith}
 use native.Mathlib.Nat.{le-refl}
-use Rattle.rules.specs.Words.{Machine, Call, Ask, AskLlx, AskScx, AskVlx, AskRead, AskStep, Place, Idle, L1, H1, Vlx, Read, Own}
+use Rattle.rules.specs.Words.{Machine, Call, Ask, AskLlx, AskScx, AskVlx, AskRead, AskStep, Place, Idle, L1, Vlx, Read}
 use Rattle.rules.specs.Words.{Answer, Accepted, Snapshot, Finalized, Fail, Yes, No, Value, Refused}
 use Rattle.rules.specs.Refuse.{isIdle}
-use Rattle.rules.specs.Step.{moveAt}
 use Rattle.rules.specs.Next.{next}
 use Rattle.keeps.proofs.Refused.{isAccepted, Plain, plain}
 use Rattle.clauses.proofs.Updates.{same?, leb-case, bool?, tf}

@@ -8,4 +8,3 @@ pub mod Most
 pub mod UndisturbedLlx
 pub mod UndisturbedScx
 pub mod Every
-pub mod Speaks

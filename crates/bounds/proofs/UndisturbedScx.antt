@@ -5,12 +5,11 @@ use mathlib.Core.Path.{_≡_, refl, sym, ap, _∙_, subst}
 use mathlib.Core.Bool.{Bool, true, false}
 use mathlib.Core.Logic.{_⊎_, inl, inr, _↔_, _≢_, ⊎-elim}
 use lib.Dec.{ltb}
-use borrow.Author.Tests.{ltb-true, ltb-false, lt-ltb, eq-eqb}
+use borrow.Author.Tests.{ltb-true, ltb-false, eq-eqb}
 use native.Mathlib.Omega.{arith}
 use native.Mathlib.Nat.{le-refl}
 use Rattle.rules.specs.Words.{Change, Own, Seen, Machine, Call, Record, Task, Yes, Place, Idle, H1, H5, H6, H7, H8}
-use Rattle.table.specs.Table.{pick, linkAt}
-use Rattle.table.proofs.Tabulate.{getD-tabulate}
+use Rattle.table.specs.Table.{pick}
 use Rattle.rules.specs.Access.{changeOf}
 use Rattle.rules.specs.Resume.{firstFrom, atMark, resume}
 use Rattle.rules.specs.Refuse.{isIdle}
@@ -21,7 +20,7 @@ use Rattle.clauses.proofs.Clauses.{Made}
 use Rattle.clauses.proofs.Steps.{termsOf, is-stored, actAt, Saw}
 use Rattle.clauses.proofs.Course.{Course, S, history, turn, guard, since-start}
 use Rattle.clauses.proofs.Came.{Sets, took-came}
-use Rattle.orders.specs.Demand.{before, said, place, info, named, Going}
+use Rattle.orders.specs.Demand.{said, place, info, named, Going}
 use Rattle.orders.specs.Demand.{Change as Asked}
 use Rattle.orders.proofs.Run.{Run, course, task-is}
 use Rattle.orders.proofs.Changes.{terms, makes, alone}

@@ -4,19 +4,16 @@ use Prim.Native.Nat.{ℕ, suc, _<_}
 use native.Mathlib.Omega.{arith}
 use mathlib.Core.Path.{_≡_, refl, sym, ap, _∙_, subst}
 use mathlib.Core.Logic.{⊎-elim}
-use mathlib.Core.Bool.{true, false, not, true≢false}
+use mathlib.Core.Bool.{true, false, not}
 use mathlib.Core.List.{_∷_, _++_}
-use lib.ListN.{replicate}
 use borrow.Author.Tests.{ltb-true, ne-eqb}
 use Rattle.rules.specs.Words.{Call, Own}
-use Rattle.table.specs.Table.{taskAt}
-use Rattle.rules.specs.Refuse.{isIdle}
 use Rattle.rules.specs.Next.{llx}
 use Rattle.clauses.proofs.Updates.{leb-case}
 use Rattle.orders.specs.Demand.{at-h4, before, info, named, Change, Holds, Snap, LinkedRead, Verdict, Demand3}
 use Rattle.forged.specs.Broken.{cached}
-use Rattle.forged.proofs.Through.{silent, silent-is, throughout-is}
-use Rattle.forged.proofs.Events.{busy, begun, steps, verdict}
+use Rattle.forged.proofs.Through.{silent, silent-is}
+use Rattle.forged.proofs.Events.{busy, starts, goes-on, begun, steps, verdict}
 use Rattle.forged.proofs.Without.{moves}
 use Rattle.forged.proofs.Script.{computed, table, script, A, B, goes, reads, just, writes}
 
@@ -31,11 +28,8 @@ second-read : Snap cached table reread 33 A 0
 unfolding computed table reread cached
 second-read = record {
   start = 25;
-  starts = record { list = replicate 4 0; asks = refl; accepted = refl };
-  going = record {
-    later = ltb-true 25 33 refl;
-    busy = λ j l1 l2 i. true≢false (sym (throughout-is cached table reread (λ j x. not (isIdle (taskAt x A .place))) 25 34 at-work j l1 (omega arith)) ∙ ap (λ q. not (isIdle q)) i);
-  };
+  starts = starts cached table reread refl refl;
+  going = goes-on cached table reread A 25 33 refl at-work;
   steps = steps cached table reread 33 A (refl, refl);
   answer = refl;
 }

@@ -5,10 +5,9 @@ use mathlib.Core.Path.{_≡_, refl, sym, ap, subst, _∙_}
 use mathlib.Core.Logic.{⊎-elim}
 use mathlib.Core.Bool.{Bool, true, false, not, true≢false}
 use mathlib.Core.List.{List}
-use lib.ListN.{replicate}
 use lib.Dec.{eqb, ltb}
 use borrow.Author.Tests.{ltb-true, eqb-false, eq-eqb}
-use Rattle.rules.specs.Words.{After, Own, H1, H7, Machine, Call, Accepted, Snapshot, Out}
+use Rattle.rules.specs.Words.{After, Own, H1, H7, Machine, Ask, Call, Accepted, Snapshot, Out}
 use Rattle.table.specs.Table.{cellAt, recordAt, changeAt, taskAt, linkAt, sameCell}
 use Rattle.rules.specs.Claim.{both, allBelow}
 use Rattle.rules.proofs.Exact.{both-is, both-on, all-is}
@@ -16,7 +15,7 @@ use Rattle.rules.specs.Access.{changeOf}
 use Rattle.rules.specs.Refuse.{isIdle}
 use Rattle.rules.specs.Next.{llx, scx, stepping}
 use Rattle.orders.specs.Demand.{Brings, leads, answers, before, said, place, cell, info, Steps, Change, named, spot}
-use Rattle.orders.specs.Demand.{During, Effect, Holds, Going, Snap, LinkedRead, Verdict}
+use Rattle.orders.specs.Demand.{During, Effect, Holds, Starts, Going, Snap, LinkedRead, Verdict}
 use Rattle.orders.proofs.Busy.{idle-or}
 use Rattle.clauses.proofs.Updates.{bool?}
 use Rattle.forged.specs.Places.{isScx, isLlx}
@@ -63,6 +62,17 @@ module _ (next : Machine → Call → Out) (m : Machine) (calls : ℕ → Call) 
   pub steps : (k t : ℕ) → going k t → Steps next m calls k t
   steps k t g =
       record { step = ap (λ x. x .ask) (g .0); by = ap (λ x. x .task) (g .0); accepted = not-refused (said next m calls k) (g .1) }
+
+  pub starts : {s t : ℕ} {ask : Ask} {list : List ℕ} → calls s ≡ record { task = t; ask = ask; list = list } → said next m calls s ≡ Accepted
+      → Starts next m calls s t ask
+  starts {list = list} e a = record { list = list; asks = e; accepted = a }
+
+  pub goes-on : (t s k : ℕ) → ltb s k ≡ true → busy t s k ≡ true → Going next m calls s t k
+  goes-on t s k l b =
+      record {
+        later = ltb-true s k l;
+        busy = λ j l1 l2 i. true≢false (sym (throughout-is next m calls _ s (suc k) b j l1 (omega arith)) ∙ ap (λ q. not (isIdle q)) i);
+      }
 
   abbrev pub begun : (start task n : ℕ) (list : List ℕ) (r written field new number : ℕ)
       → calls start ≡ scx task n list r written field new
@@ -172,11 +182,8 @@ module _ {next : Machine → Call → Out} {m : Machine} {calls : ℕ → Call} 
         before-start = ltb-true e (c .start) l;
         ends = record {
           start = s;
-          starts = record { list = replicate 4 0; asks = asks; accepted = acc };
-          going = record {
-            later = ltb-true s e f;
-            busy = λ j l1 l2 i. true≢false (sym (throughout-is next m calls _ s (suc e) b j l1 (omega arith)) ∙ ap (λ q. not (isIdle q)) i);
-          };
+          starts = starts next m calls asks acc;
+          going = goes-on next m calls (c .task) s e f b;
           steps = steps next m calls e (c .task) g;
           answer = x;
         };

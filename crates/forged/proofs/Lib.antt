@@ -11,3 +11,4 @@ pub mod Shams
 pub mod Others
 pub mod Beyond
 pub mod Cached
+pub mod InTime

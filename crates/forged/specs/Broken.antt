@@ -3,7 +3,7 @@
 use Prim.Native.Nat.{ℕ, zero, suc, _+_}
 use mathlib.Core.Bool.{Bool, true, false}
 use lib.Dec.{eqb, ltb}
-use Rattle.rules.specs.Words.{State, InProgress, Committed, Aborted, Cell, Place, H4, H5, H6, H7, H8, Seen, Move}
+use Rattle.rules.specs.Words.{State, InProgress, Committed, Aborted, Cell, Place, L1, H4, H5, H6, H7, H8, Seen, Move}
 use Rattle.rules.specs.Words.{Access, Nothing, Hold, Write, Commit, Machine, Out, Call, Yes, OutOfShape, Snapshot, Idle}
 use Rattle.rules.specs.Words.{Ask, AskLlx, AskScx, AskVlx, AskRead, AskStep}
 use Rattle.rules.specs.Start.{atPlace}
@@ -15,7 +15,7 @@ use Rattle.rules.specs.Step.{accessAt, step}
 use Rattle.rules.specs.Refuse.{idleAt}
 use Rattle.rules.specs.Next.{refused, started, next}
 use Rattle.forged.specs.Patched.{as-it-is, stepBy, nextBy}
-use Rattle.forged.specs.Places.{isL, isH, afterOf, isScx}
+use Rattle.forged.specs.Places.{isL, isH, readAt, afterOf, isScx}
 
 -- a machine with one patch
 abbrev pub doing : (Machine → Place → Access → Access) → Machine → Call → Out
@@ -156,3 +156,7 @@ keepLink AskStep m t o = o
 
 unfoldable pub cached : Machine → Call → Out
 cached m e = keepLink (e .ask) m (e .task) (nextBy stepCached m e)
+
+-- an LLX that finds the info altered at L6 begins again
+unfoldable pub begins-again : Machine → Call → Out
+begins-again = leading (λ m q v. pick (isL 6 q) (pick (isL 7 (v .place)) (on (L1 (readAt q))) v) v)

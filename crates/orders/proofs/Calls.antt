@@ -8,13 +8,12 @@ use native.Mathlib.Omega.{arith}
 use lib.Dec.{eqb, ltb}
 use Rattle.rules.specs.Words.{State, InProgress, Committed, Aborted, After, Own, AtL8, AtL11, Change, Machine, Seen, Out, Move}
 use Rattle.rules.specs.Words.{Place, Idle, L1, L2, L3, L4, L5, L6, L7, L8, L9, L10, L11, H1, H2, H3, H4, H5, H6, H7, H8, Vlx, Read}
-use Rattle.rules.specs.Words.{ReadInfo}
 use Rattle.rules.specs.Words.{Ask, AskLlx, AskScx, AskVlx, AskRead, AskStep, Call, Check, Passed, Failed}
 use Rattle.rules.specs.Words.{Refusal, Accepted, Snapshot, Fail, Yes, Refused}
 use Rattle.table.specs.Table.{pick, taskAt, changeAt, linkAt}
 use Rattle.rules.specs.Access.{changeOf, recordOf, accessOf}
 use Rattle.rules.specs.Perform.{seen}
-use Rattle.rules.specs.Resume.{on, done, snapshot, noAndDrop, verdict, afterL6, afterL7, afterL10, resume}
+use Rattle.rules.specs.Resume.{on, done, snapshot, noAndDrop, verdict, afterL7, afterL10, resume}
 use Rattle.rules.specs.Step.{accessAt, moveAt, step}
 use Rattle.rules.specs.Start.{filled}
 use Rattle.rules.specs.Refuse.{check, rules, idleAt, linkedAt, rulesOf}
@@ -188,24 +187,3 @@ module _ (m : Machine) (e : Call) where
       go : (c : Check) → check (rulesOf m e) ≡ c → readBy c m e .ends ≡ true → Snapped
       go Passed c h = asked (e .ask) (record { passed = c; asks = refl }) h
       go (Failed why) c h = absurd (false≢true h)
-
--- and the other way round
-move-l6 : (m : Machine) (t r : ℕ) (m1 : Bool) (a : ℕ) → taskAt m t .place ≡ L6 r m1 a
-    → (moveAt m t ≡ afterL6 r m1 a (seen (ReadInfo r) m .number)) × (recordOf (accessAt m t) ≡ r)
-unfolding accessAt moveAt
-move-l6 m t r m1 a at = rw at (refl, refl)
-
-pub snap-ends : (m : Machine) (e : Call) → Passes m e AskStep → (r : ℕ) (m1 : Bool) (a : ℕ) → taskAt m (e .task) .place ≡ L6 r m1 a
-    → next m e .answer ≡ Snapshot → (reading m e .ends ≡ true) × (reading m e .at ≡ r)
-unfolding step
-snap-ends m e P r m1 a at said =
-    let (v, touched) = move-l6 m (e .task) r m1 a at in
-    let k = reading-is m e AskStep P in (
-      ap (λ (k : Reading). k .ends) k ∙ ap (λ (v : Move). v .store) v
-          ∙ go (eqb (seen (ReadInfo r) m .number) a) (ap (λ (v : Move). v .answer) (sym v) ∙ sym (ap (λ (o : Out). o .answer) (next-is m e AskStep P)) ∙ said),
-      ap (λ (k : Reading). k .at) k ∙ touched,
-    )
-  where
-    go : (b : Bool) → pick b snapshot (on (L7 r m1 a)) .answer ≡ Snapshot → pick b snapshot (on (L7 r m1 a)) .store ≡ true
-    go true h = refl
-    go false h = let z : _≡_ {A = ℕ} 0 1 = cc in absurd (omega arith)

@@ -14,6 +14,7 @@ pub mod Turns
 pub mod FromFresh
 pub mod Changes
 pub mod Effects
+pub mod Ways
 pub mod Snaps
 pub mod Untouched
 pub mod Busy

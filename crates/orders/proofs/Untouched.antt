@@ -2,8 +2,8 @@
 use Prim.Native.Nat.{ℕ, suc, _<_}
 use mathlib.Core.Path.{_≡_, sym, ap, _∙_, subst}
 use mathlib.Core.Bool.{true}
-use Rattle.rules.specs.Words.{Machine, Link, L6, Call, AskStep}
-use Rattle.table.specs.Table.{taskAt, linkAt}
+use Rattle.rules.specs.Words.{Machine, Link, Call, AskStep}
+use Rattle.table.specs.Table.{linkAt}
 use Rattle.rules.specs.Access.{recordOf}
 use Rattle.rules.specs.Step.{accessAt}
 use Rattle.rules.specs.Shape.{allLinked}
@@ -15,13 +15,13 @@ use Rattle.clauses.proofs.History.{Reading}
 use Rattle.clauses.proofs.Course.{Course, history}
 use Rattle.clauses.proofs.LinkedReads.{Ends, read-at}
 use Rattle.clauses.proofs.Sentences.{untouched as none-touched}
-use Rattle.orders.specs.Demand.{before, Steps, Change, named, Names, Effect, Snap, LinkedRead, Still}
+use Rattle.orders.specs.Demand.{before, Change, named, Names, Effect, Snap, LinkedRead, Still}
 use Rattle.orders.proofs.View.{linkIn}
-use Rattle.orders.proofs.Calls.{obeyed, reading-is, snapped, snap-ends}
+use Rattle.orders.proofs.Calls.{obeyed, reading-is, snapped}
 use Rattle.orders.proofs.Run.{Run, course, link-in}
 use Rattle.orders.proofs.Snaps.{snap-of, read-is}
 use Rattle.orders.proofs.Changes.{by-task, passes, terms, makes, alone}
-use Rattle.orders.proofs.Effects.{cell-is, inside, step-passes, passed-steps, writes, terms-at}
+use Rattle.orders.proofs.Effects.{cell-is, inside, writes, terms-at}
 
 module _ (m : Machine) (calls : ℕ → Call) (R : Run m calls) where
   abbrev M : ℕ → Machine
