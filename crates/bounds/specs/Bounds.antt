@@ -1,6 +1,7 @@
 -- OWN-STEP BOUNDS. "From a fresh table an operation ends within its own steps, others doing anything: LLX 39, VLX n, READ 1, SCX 2n + f + 3
--- where R has f records. An undisturbed SCX takes n + f + 3; an undisturbed LLX on an open record nobody holds takes 9." A field for each,
--- over the runs of demand 3. An operation in progress has made fewer own steps than its bound, so the last of these ends it at the latest.
+-- where R has f records. An undisturbed SCX takes n + f + 3; an undisturbed LLX on an open record nobody holds takes 9." Each stands
+-- above the fields that render it, over the runs of demand 3. An operation in progress has made fewer own steps than its bound: it ends
+-- with the last of them at the latest.
 -- The theorem is `every-bound` in proofs/Every.antt: Bounds next (the fresh table) calls, for all calls.
 use Prim.Native.Nat.{ℕ, zero, suc, _+_, _*_, _/_, _%_, _<_}
 use mathlib.Core.Path.{_≡_}
@@ -15,7 +16,7 @@ use Rattle.orders.specs.Demand.{before, said, place, mark, info, Steps, Starts,
 abbrev pub size : ℕ → ℕ
 size r = r % 2 + r / 2 % 2 + r / 4 % 2 + r / 8 % 2
 
--- the call is a STEP, of task t
+-- the ask is a STEP
 abbrev pub isStep : Ask → Bool
 isStep (AskLlx r) = false
 isStep (AskScx n r written field new) = false
@@ -23,6 +24,7 @@ isStep (AskVlx n) = false
 isStep (AskRead r f) = false
 isStep AskStep = true
 
+-- the call is a STEP of task t
 abbrev pub stepOf : ℕ → Call → Bool
 stepOf t e = isStep (e .ask) && eqb (e .task) t
 

@@ -80,7 +80,7 @@ module _ (next : Machine → Call → Out) (m : Machine) (calls : ℕ → Call) 
     pub asks : calls s ≡ record { task = t; ask = ask; list = list }
     pub accepted : said s ≡ Accepted
 
-  -- the operation that t started at s is in progress before call k: t has been busy since
+  -- t has been busy since call s: the operation that it started there is in progress before call k
   pub record Going (s t k : ℕ) : Type 0 where
     pub later : s < k
     pub busy : (j : ℕ) → s < j → j ≤ k → place j t ≢ Idle
