@@ -68,17 +68,17 @@ module _ (m : Machine) (calls : ℕ → Call) (R : Run m calls) where
 
   pub llx-most : (s t r k : ℕ) → Starts next m calls s t (AskLlx r) → Going next m calls s t k → own next m calls s t k < 39
   unfolding rank
-  llx-most s t r k B = from-start s t (AskLlx r) B (L1 r) (λ P. (obeyed (M s) (calls s) _ P .0, R .llx-place s r P)) k
+  llx-most s t r k B = from-start s t (AskLlx r) B (L1 r) (λ P. (obeyed (M s) (calls s) _ P .0, R .goes-to s (AskLlx r) P)) k
 
   pub vlx-most : (s t n k : ℕ) → Starts next m calls s t (AskVlx n) → Going next m calls s t k → own next m calls s t k < n
   unfolding rank
   vlx-most s t n k B g =
-      let h = from-start s t (AskVlx n) B (Vlx n 0) (λ P. (obeyed (M s) (calls s) _ P .0, R .vlx-place s n P)) k g in
+      let h = from-start s t (AskVlx n) B (Vlx n 0) (λ P. (obeyed (M s) (calls s) _ P .0, R .goes-to s (AskVlx n) P)) k g in
       omega arith
 
   pub read-most : (s t r f k : ℕ) → Starts next m calls s t (AskRead r f) → Going next m calls s t k → own next m calls s t k < 1
   unfolding rank
-  read-most s t r f k B = from-start s t (AskRead r f) B (Read r f) (λ P. (obeyed (M s) (calls s) _ P .0, R .read-place s r f P)) k
+  read-most s t r f k B = from-start s t (AskRead r f) B (Read r f) (λ P. (obeyed (M s) (calls s) _ P .0, R .goes-to s (AskRead r f) P)) k
 
   of-change : (c : Asked next m calls) (k : ℕ) → Going next m calls (c .start) (c .task) k
       → own next m calls (c .start) (c .task) k < 2 * c .n + size (c .closing) + 3
@@ -105,5 +105,5 @@ module _ (m : Machine) (calls : ℕ → Call) (R : Run m calls) where
         number = M s .used + 1;
         asks = B .asks;
         accepted = B .accepted;
-        takes = begun m calls R s t _ B _ (obeyed (M s) (calls s) _ P .0) (R .scx-place s n r written field new P) .1;
+        takes = begun m calls R s t _ B _ (obeyed (M s) (calls s) _ P .0) (R .goes-to s (AskScx n r written field new) P) .1;
       }) k g

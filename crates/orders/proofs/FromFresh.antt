@@ -33,7 +33,7 @@ use Rattle.clauses.proofs.History.{none-yet}
 use Rattle.clauses.proofs.Clauses.{Live}
 use Rattle.clauses.proofs.Clauses.{Fine as Clauses}
 use Rattle.orders.specs.Demand.{before}
-use Rattle.orders.proofs.View.{taskIn, linkIn, view}
+use Rattle.orders.proofs.View.{taskIn, linkIn, view, leadsTo}
 use Rattle.orders.proofs.Number.{info-known, stamp-known, live-known}
 use Rattle.orders.proofs.Linked.{stores}
 use Rattle.orders.proofs.Settled.{steps-to, llx-starts, scx-starts, vlx-starts, read-starts}
@@ -176,6 +176,19 @@ module _ (p n : ℕ) (values : List ℕ) (ok : inRange p n (length values) ≡ t
         ap (λ (x : Task). x .place) (sym (task-in (next (M k) (calls k) .m) (calls k .task) s)
         ∙ ap (λ (o : Out). taskIn (o .m) (calls k .task)) (next-is (M k) (calls k) ask P) ∙ e)
 
+    goes-to : (k : ℕ) (ask : Ask) → Passes (M k) (calls k) ask → taskAt (M (suc k)) (calls k .task) .place ≡ leadsTo (M k) (calls k .task) ask
+    unfolding started
+    goes-to k (AskLlx r) P = let h = obeyed (M k) (calls k) _ P .0 in
+        place-after k _ P h _ (llx-starts (M k) (fine (M k) (in-shape k)) (sized k) (calls k .task) h r (calls k .list))
+    goes-to k (AskScx n r written field new) P = let h = obeyed (M k) (calls k) _ P .0 in
+        place-after k _ P h _ (scx-starts (M k) (fine (M k) (in-shape k)) (sized k) (calls k .task) h n r written field new (calls k .list))
+    goes-to k (AskVlx n) P = let h = obeyed (M k) (calls k) _ P .0 in
+        place-after k _ P h _ (vlx-starts (M k) (fine (M k) (in-shape k)) (sized k) (calls k .task) h n (calls k .list))
+    goes-to k (AskRead r f) P = let h = obeyed (M k) (calls k) _ P .0 in
+        place-after k _ P h _ (read-starts (M k) (fine (M k) (in-shape k)) (sized k) (calls k .task) h r f (calls k .list))
+    goes-to k AskStep P = let h = obeyed (M k) (calls k) _ P .0 in
+        place-after k _ P h _ (steps-to (M k) (fine (M k) (in-shape k)) (sized k) (calls k .task) h)
+
     snapshots : (k : ℕ) → Passes (M k) (calls k) AskStep → moveAt (M k) (calls k .task) .store ≡ true
         → linkIn (M (suc k)) (calls k .task) (recordOf (accessAt (M k) (calls k .task))) .cells ≡ next (M k) (calls k) .cells
     unfolding before step
@@ -201,14 +214,5 @@ module _ (p n : ℕ) (values : List ℕ) (ok : inRange p n (length values) ≡ t
       no-changes = nobody;
       no-links = unlinked;
       turns = λ k G K. turn-of (M k) (fine (M k) (in-shape k)) (sized k) G K (calls k);
-      step-place = λ k P. let h = obeyed (M k) (calls k) _ P .0 in
-          place-after k _ P h _ (steps-to (M k) (fine (M k) (in-shape k)) (sized k) (calls k .task) h);
-      scx-place = λ k n r written field new P. let h = obeyed (M k) (calls k) _ P .0 in
-          place-after k _ P h _ (scx-starts (M k) (fine (M k) (in-shape k)) (sized k) (calls k .task) h n r written field new (calls k .list));
-      llx-place = λ k r P. let h = obeyed (M k) (calls k) _ P .0 in
-          place-after k _ P h _ (llx-starts (M k) (fine (M k) (in-shape k)) (sized k) (calls k .task) h r (calls k .list));
-      vlx-place = λ k n P. let h = obeyed (M k) (calls k) _ P .0 in
-          place-after k _ P h _ (vlx-starts (M k) (fine (M k) (in-shape k)) (sized k) (calls k .task) h n (calls k .list));
-      read-place = λ k r f P. let h = obeyed (M k) (calls k) _ P .0 in
-          place-after k _ P h _ (read-starts (M k) (fine (M k) (in-shape k)) (sized k) (calls k .task) h r f (calls k .list));
+      goes-to = goes-to;
     }

@@ -1,10 +1,10 @@
 -- A run whose tables are in shape and whose calls are turns is a course of the clauses.
-use Prim.Native.Nat.{ℕ, suc, _+_, _≤_, _<_}
+use Prim.Native.Nat.{ℕ, suc, _≤_, _<_}
 use mathlib.Core.Path.{_≡_, refl, sym, ap, _∙_, subst}
 use mathlib.Core.Logic.{inr, _≢_}
 use mathlib.Core.Bool.{true, false}
 use borrow.Author.Tests.{lt-ltb}
-use Rattle.rules.specs.Words.{Machine, Task, Own, Idle, L1, H1, Vlx, Read, AskLlx, AskScx, AskVlx, AskRead, AskStep, Call}
+use Rattle.rules.specs.Words.{Machine, Task, Idle, Ask, AskStep, Call}
 use Rattle.table.specs.Table.{noRecord, noTask, recordAt, taskAt, linkAt}
 use Rattle.rules.specs.Access.{changeOf, recordOf}
 use Rattle.rules.specs.Step.{accessAt, moveAt}
@@ -17,7 +17,7 @@ use Rattle.clauses.proofs.Turn.{Turn}
 use Rattle.clauses.proofs.Course.{Course, X, S, history, fine}
 use Rattle.orders.specs.Demand.{before, place}
 use Rattle.orders.proofs.Stored.{entry-is}
-use Rattle.orders.proofs.View.{recordIn, taskIn, linkIn, view, did, reading}
+use Rattle.orders.proofs.View.{recordIn, taskIn, linkIn, view, did, reading, leadsTo}
 use Rattle.orders.proofs.Calls.{Passes}
 
 pub record Run (m : Machine) (calls : ℕ → Call) : Type 0 where
@@ -37,15 +37,8 @@ pub record Run (m : Machine) (calls : ℕ → Call) : Type 0 where
   pub snapshots : (k : ℕ) → Passes (before next m calls k) (calls k) AskStep → moveAt (before next m calls k) (calls k .task) .store ≡ true
       → linkIn (before next m calls (suc k)) (calls k .task) (recordOf (accessAt (before next m calls k) (calls k .task))) .cells
       ≡ next (before next m calls k) (calls k) .cells
-  -- where a step and each start lead
-  pub step-place : (k : ℕ) → Passes (before next m calls k) (calls k) AskStep
-      → taskAt (before next m calls (suc k)) (calls k .task) .place ≡ moveAt (before next m calls k) (calls k .task) .place
-  pub scx-place : (k n r written field new : ℕ) → Passes (before next m calls k) (calls k) (AskScx n r written field new)
-      → taskAt (before next m calls (suc k)) (calls k .task) .place ≡ H1 (before next m calls k .used + 1) 0 Own
-  pub llx-place : (k r : ℕ) → Passes (before next m calls k) (calls k) (AskLlx r) → taskAt (before next m calls (suc k)) (calls k .task) .place ≡ L1 r
-  pub vlx-place : (k n : ℕ) → Passes (before next m calls k) (calls k) (AskVlx n) → taskAt (before next m calls (suc k)) (calls k .task) .place ≡ Vlx n 0
-  pub read-place : (k r f : ℕ) → Passes (before next m calls k) (calls k) (AskRead r f)
-      → taskAt (before next m calls (suc k)) (calls k .task) .place ≡ Read r f
+  pub goes-to : (k : ℕ) (ask : Ask) → Passes (before next m calls k) (calls k) ask
+      → taskAt (before next m calls (suc k)) (calls k .task) .place ≡ leadsTo (before next m calls k) (calls k .task) ask
 
 abbrev pub course : (m : Machine) (calls : ℕ → Call) → Run m calls → Course
 course m calls R =

@@ -4,6 +4,7 @@ use Prim.Native.Nat.{ℕ, _+_}
 use mathlib.Core.Bool.{false}
 use mathlib.Core.List.{List}
 use lib.Dec.{ltb}
+use Rattle.rules.specs.Words.{Place, L1, H1, Own, Vlx, Read}
 use Rattle.rules.specs.Words.{Record, Task, Link, Machine, Ask, AskLlx, AskScx, AskVlx, AskRead, AskStep, Call, Check, Passed, Failed}
 use Rattle.table.specs.Table.{pick, noRecord, noTask, noLink, taskAt, linkAt}
 use Rattle.rules.specs.Access.{recordOf}
@@ -62,3 +63,11 @@ did m e = doneBy (check (rulesOf m e)) m e
 
 abbrev pub reading : Machine → Call → Reading
 reading m e = readBy (check (rulesOf m e)) m e
+
+-- where an accepted call leaves its task
+abbrev pub leadsTo : Machine → ℕ → Ask → Place
+leadsTo m t (AskLlx r) = L1 r
+leadsTo m t (AskScx n r written field new) = H1 (m .used + 1) 0 Own
+leadsTo m t (AskVlx n) = Vlx n 0
+leadsTo m t (AskRead r f) = Read r f
+leadsTo m t AskStep = moveAt m t .place

@@ -77,7 +77,7 @@ module _ (m : Machine) (calls : ℕ → Call) (R : Run m calls) where
       → (place next m calls (suc k) t ≡ moveAt (M k) t .place) × (said next m calls k ≡ moveAt (M k) t .answer)
   unfolding step
   moved k t P = let Q = step-passes m calls R k t P in (
-    subst (λ t. place next m calls (suc k) t ≡ moveAt (M k) t .place) (P .by) (R .step-place k Q),
+    subst (λ t. place next m calls (suc k) t ≡ moveAt (M k) t .place) (P .by) (R .goes-to k AskStep Q),
     ap (λ (o : Out). o .answer) (next-is (M k) (calls k) AskStep Q) ∙ ap (λ t. moveAt (M k) t .answer) (P .by),
   )
 
