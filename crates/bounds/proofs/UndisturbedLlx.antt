@@ -3,7 +3,7 @@
 use Prim.Native.Nat.{ℕ, suc, _+_, _-_, _<_}
 use mathlib.Core.Path.{_≡_, refl, sym, ap, _∙_, subst}
 use mathlib.Core.Bool.{Bool, true, false, true≢false}
-use mathlib.Core.Logic.{inl, inr, _↔_, _≢_}
+use mathlib.Core.Logic.{inl, inr, _↔_, _≢_, ⊎-elim}
 use lib.Dec.{ltb}
 use borrow.Author.Tests.{ltb-true, ltb-false, eq-eqb}
 use native.Mathlib.Omega.{arith}
@@ -18,10 +18,12 @@ use Rattle.clauses.proofs.Memory.{Shared, apply}
 use Rattle.clauses.proofs.Steps.{actAt, Saw}
 use Rattle.clauses.proofs.Frame.{stay-ended, stay-open}
 use Rattle.clauses.proofs.Course.{Course, S, history, turn}
-use Rattle.orders.specs.Demand.{before, said, place, info, Going, Starts}
+use Rattle.orders.specs.Demand.{before, said, place, info, Going, Starts, Holds}
+use Rattle.orders.specs.Demand.{Change as Changed}
 use Rattle.orders.proofs.Calls.{Passes, did-is, obeyed}
 use Rattle.orders.proofs.Run.{Run, course}
 use Rattle.orders.proofs.Effects.{is-in}
+use Rattle.orders.proofs.Holders.{by-a-hold, nobody-holds, is-open}
 use Rattle.bounds.specs.Bounds.{stepOf, own, UndisturbedLlx}
 use Rattle.bounds.proofs.Along.{passes, begun, not-taken, left-in}
 use Rattle.bounds.proofs.Count.{Down, exactly}
@@ -100,11 +102,17 @@ module _ (m : Machine) (calls : ℕ → Call) (R : Run m calls) (s t r K : ℕ) 
   rl : r < m .n
   rl = subst (λ n. r < n) (R .same-n s) (obeyed (M s) (calls s) _ P .1 .1 .0)
 
+  info-is : S C s .info r ≡ a
+  info-is = ap (λ (x : Record). x .info) (is-in m calls R s r rl)
+
   first : Q (S C (suc s)) (at (suc s)) 9
   unfolding apply
   first = (
-    subst (λ (Z : Shared). Free Z r a) (sym (turn C s .shared ∙ ap (λ b. apply b (S C s)) (did-is (M s) (calls s) _ P)))
-        (ap (λ (x : Record). x .mark) (is-in m calls R s r rl) ∙ U .no-mark, ap (λ (x : Record). x .info) (is-in m calls R s r rl), U .not-held),
+    subst (λ (Z : Shared). Free Z r a) (sym (turn C s .shared ∙ ap (λ b. apply b (S C s)) (did-is (M s) (calls s) _ P))) (
+      is-open m calls R s r rl (U .not-held) (U .not-closed),
+      info-is,
+      subst (λ a. S C s .state a ≢ InProgress) info-is (nobody-holds m calls R s r rl (U .not-held)),
+    ),
     subst (λ q. Reads r a q 9) (sym (start .1)) at-l1,
   )
 
@@ -115,7 +123,8 @@ module _ (m : Machine) (calls : ℕ → Call) (R : Run m calls) (s t r K : ℕ) 
         (
           ap (λ (Z : Shared). Z .mark r) (turn C k .shared) ∙ stay-open (S C k) (history C k) (C .who k) (C .reads k) (C .act k) (turn C k .guard) r
               (subst (λ a. S C k .state a ≢ InProgress) (sym (f .1)) (f .2)) (f .0),
-          left-in m calls R t tl k b (λ x. x .info) r rl h (λ o. U .untouched k (g .later) c o) ∙ f .1,
+          left-in m calls R t tl k b (λ x. x .info) r rl h (λ o. ⊎-elim (λ e. e)
+              (λ (d : (d : Changed next m calls) × Holds next m calls d k r). absurd (U .untouched (d .0) k (g .later) c o (d .1))) (by-a-hold m calls R k r rl)) ∙ f .1,
           subst (λ (Z : Shared). Z .state a ≢ InProgress) (sym (turn C k .shared))
               (stay-ended (S C k) (history C k) (C .who k) (C .reads k) (C .act k) (turn C k .guard) a
               (not-taken C k a (λ z. (z, inl (r, f .1)))) (f .2)),

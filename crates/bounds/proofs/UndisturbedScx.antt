@@ -8,7 +8,7 @@ use lib.Dec.{ltb}
 use borrow.Author.Tests.{ltb-true, ltb-false, eq-eqb}
 use native.Mathlib.Omega.{arith}
 use native.Mathlib.Nat.{le-refl}
-use Rattle.rules.specs.Words.{Change, Own, Seen, Machine, Call, Record, Task, Yes, Place, Idle, H1, H5, H6, H7, H8}
+use Rattle.rules.specs.Words.{Change, Own, Seen, Machine, Call, Task, Yes, Place, Idle, H1, H5, H6, H7, H8}
 use Rattle.table.specs.Table.{pick}
 use Rattle.rules.specs.Access.{changeOf}
 use Rattle.rules.specs.Resume.{firstFrom, atMark, resume}
@@ -20,11 +20,13 @@ use Rattle.clauses.proofs.Clauses.{Made}
 use Rattle.clauses.proofs.Steps.{termsOf, is-stored, actAt, Saw}
 use Rattle.clauses.proofs.Course.{Course, S, history, turn, guard, since-start}
 use Rattle.clauses.proofs.Came.{Sets, took-came}
-use Rattle.orders.specs.Demand.{said, place, info, named, Going}
+use Rattle.orders.specs.Demand.{said, place, named, Going, Holds}
 use Rattle.orders.specs.Demand.{Change as Asked}
 use Rattle.orders.proofs.Run.{Run, course, task-is}
 use Rattle.orders.proofs.Changes.{terms, makes, alone}
-use Rattle.orders.proofs.Effects.{is-in, inside}
+use Rattle.orders.proofs.Effects.{inside}
+use Rattle.orders.proofs.Verdicts.{holds}
+use Rattle.orders.proofs.Holders.{by-a-hold}
 use Rattle.orders.proofs.Untouched.{task-inside, read-of}
 use Rattle.orders.proofs.Working.{works-on}
 use Rattle.orders.proofs.Follows.{works}
@@ -130,15 +132,13 @@ module _ (m : Machine) (calls : ℕ → Call) (R : Run m calls) (c : Asked next 
       r : ℕ
       r = named next m calls c i
 
-      is : (k : ℕ) → S C k .info r ≡ info next m calls k r
-      is k = ap (λ (x : Record). x .info) (is-in m calls R k r (inside m calls R c i h))
-
       moved : S C s .info r ≢ T .infos i
           → (history C s .took r ≡ 0) ⊎ ((h : ℕ) × (h < s) × (history C s .took r ≡ suc h) × Sets C h (S C s .info r) r) → ⊥
       moved n (inl z) = omega (arith, made .anchors i h .TAKEN n)
       moved n (inr (j, l, z, D)) =
           let (e, A, time) = read-of m calls R c i h in
-          D .from (is j ∙ sym (U .since-read i e j h A (omega (arith, made .anchors i h .TAKEN n)) l) ∙ sym (is (suc j)) ∙ D .to)
+          let (d, q, B) = holds m calls R j (S C s .info r) r (inside m calls R c i h) D in
+          U .since-read d i e j h A (omega (arith, made .anchors i h .TAKEN n)) l B
 
   unheld : (i : ℕ) → i < c .n → S C (suc s) .info (named next m calls c i) ≡ T .infos i
   unfolding apply
@@ -167,5 +167,7 @@ module _ (m : Machine) (calls : ℕ → Call) (R : Run m calls) (c : Asked next 
       (λ k n g p s ch linked e w. let (a, b) = terms-are k g in
       one-step (S C k) T u s ch linked a (e ∙ ap (S C k .terms) b ∙ a) (made .apart) (at k) n p w)
       (λ k n g l p h. same-infos T u (S C k) (S C (suc k)) (λ i b. left-in m calls R t tl k (g .busy k (g .later) (le-refl k)) (λ x. x .info)
-      (named next m calls c i) (inside m calls R c i b) h (λ o. U .untouched k (g .later) l o i b)) (at k) n p)
+      (named next m calls c i) (inside m calls R c i b) h (λ o. ⊎-elim (λ e. e)
+      (λ (d : (d : Asked next m calls) × Holds next m calls d k (named next m calls c i)). absurd (U .untouched (d .0) i k b (g .later) l o (d .1)))
+      (by-a-hold m calls R k (named next m calls c i) (inside m calls R c i b)))) (at k) n p)
       (busy T u))

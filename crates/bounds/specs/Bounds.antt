@@ -8,9 +8,9 @@ use mathlib.Core.Path.{_≡_}
 use mathlib.Core.Logic.{_⊎_, _↔_, _≢_}
 use mathlib.Core.Bool.{Bool, true, false, _&&_}
 use lib.Dec.{eqb, ltb}
-use Rattle.rules.specs.Words.{InProgress, Idle, Machine, Ask, AskLlx, AskScx, AskVlx, AskRead, AskStep, Call, Accepted, Snapshot, Yes, Out}
-use Rattle.table.specs.Table.{pick, changeAt, stateOf}
-use Rattle.orders.specs.Demand.{before, said, place, mark, info, Steps, Starts, Change, named, LinkedRead, Going}
+use Rattle.rules.specs.Words.{Idle, Machine, Ask, AskLlx, AskScx, AskVlx, AskRead, AskStep, Call, Accepted, Snapshot, Yes, Out}
+use Rattle.table.specs.Table.{pick}
+use Rattle.orders.specs.Demand.{said, place, Steps, Starts, Going, Change, named, Closes, Effect, Verdict, Holds, LinkedRead}
 
 -- how many records R has: the bits of places 0 to 3
 abbrev pub size : ℕ → ℕ
@@ -34,19 +34,21 @@ module _ (next : Machine → Call → Out) (m : Machine) (calls : ℕ → Call) 
   own s t zero = 0
   own s t (suc k) = pick (ltb s k && stepOf t (calls k)) (suc (own s t k)) (own s t k)
 
-  -- an undisturbed SCX: from the end of each linked read to the start nobody alters the record's info, and from then until call k nobody
+  -- an undisturbed SCX: from the end of each linked read to the start nobody takes hold of the record, and from then until call k nobody
   -- else does
   pub record UndisturbedScx (c : Change next m calls) (k : ℕ) : Type 0 where
-    pub since-read : (i e j : ℕ) → i < c .n → LinkedRead next m calls c (named next m calls c i) e → e < j → j < c .start
-        → info next m calls (suc j) (named next m calls c i) ≡ info next m calls j (named next m calls c i)
-    pub untouched : (j : ℕ) → c .start < j → j < k → calls j .task ≢ c .task → (i : ℕ) → i < c .n
-        → info next m calls (suc j) (named next m calls c i) ≡ info next m calls j (named next m calls c i)
+    pub since-read : (d : Change next m calls) (i e j : ℕ) → i < c .n → LinkedRead next m calls c (named next m calls c i) e → e < j → j < c .start
+        → Holds next m calls d j (named next m calls c i) → ⊥
+    pub untouched : (d : Change next m calls) (i j : ℕ) → i < c .n → c .start < j → j < k → calls j .task ≢ c .task
+        → Holds next m calls d j (named next m calls c i) → ⊥
 
-  -- an undisturbed LLX of r: at its start r is open and nobody holds it, and nobody else alters its info until call k
+  -- an undisturbed LLX of r: before its start no change that closes r has taken effect, and each that took hold of r has its verdict;
+  -- nobody else takes hold of it until call k
   pub record UndisturbedLlx (s t r k : ℕ) : Type 0 where
-    pub no-mark : mark next m calls s r ≡ false
-    pub not-held : stateOf (info next m calls s r) (changeAt (before next m calls s) (info next m calls s r)) ≢ InProgress
-    pub untouched : (j : ℕ) → s < j → j < k → calls j .task ≢ t → info next m calls (suc j) r ≡ info next m calls j r
+    pub not-closed : (c : Change next m calls) (j : ℕ) → j < s → Effect next m calls c j → Closes next m calls c r → ⊥
+    pub not-held : (c : Change next m calls) (j : ℕ) → j < s → Holds next m calls c j r
+        → (i : ℕ) × (yes : Bool) × (i < s) × Verdict next m calls c i yes
+    pub untouched : (c : Change next m calls) (j : ℕ) → s < j → j < k → calls j .task ≢ t → Holds next m calls c j r → ⊥
 
   pub record Bounds : Type 0 where
     -- "an operation answers on its last access": a start leaves its task busy, and it is so until a STEP of its own answers; no STEP

@@ -133,6 +133,45 @@ module _ (C : Course) where
             (sym z ∙ ap (S C k .info) (sym q) ∙ g .at) (hold-going (S C k) (H k) (C .who k) x i g));
       }
 
+  -- an info alters by an H1 alone
+  pub sets-by : (k r : ℕ) → (S C (suc k) .info r ≡ S C k .info r) ⊎ ((x : ℕ) × Sets k x r)
+  sets-by k r = go (took-back (S C k) (H k) (C .who k) (C .reads k) (C .act k) r)
+    where
+      info-is : S C (suc k) .info r ≡ apply (C .act k) (S C k) .info r
+      info-is = ap (λ (s : Shared). s .info r) (turn C k .shared)
+
+      go : ((note (C .who k) (C .act k) (C .reads k) (S C k) (H k) .took r ≡ H k .took r) × (apply (C .act k) (S C k) .info r ≡ S C k .info r))
+          ⊎ Took (S C k) (H k) (C .who k) (C .reads k) (C .act k) r → (S C (suc k) .info r ≡ S C k .info r) ⊎ ((x : ℕ) × Sets k x r)
+      go (inl (a, c)) = inl (info-is ∙ c)
+      go (inr (x, i, e, q, a, c)) = inr (x, hold-sets k x i r e q (info-is ∙ c))
+
+  -- an info is 0, or an H1 set it and it has stood since
+  abbrev pub Since : ℕ → ℕ → Type 0
+  Since k r = (S C k .info r ≡ 0)
+      ⊎ ((h : ℕ) × (h < k) × Sets h (S C k .info r) r × ((j : ℕ) → h < j → j ≤ k → S C j .info r ≡ S C k .info r))
+
+  pub info-came : (k r : ℕ) → Since k r
+  info-came zero r = ⊎-elim (λ z. inl z) (λ n. absurd (C .no-changes (S C 0 .info r) (n, inl (r, refl)))) (same? (S C 0 .info r) 0)
+  info-came (suc k) r = go (sets-by k r) (info-came k r)
+    where
+      now : (x : ℕ) → Sets k x r → Since (suc k) r
+      now x B = inr (
+        k,
+        omega arith,
+        subst (λ y. Sets k y r) (sym (B .to)) B,
+        λ j a b. let z : j ≡ suc k = omega arith in ap (λ j. S C j .info r) z,
+      )
+
+      go : (S C (suc k) .info r ≡ S C k .info r) ⊎ ((x : ℕ) × Sets k x r) → Since k r → Since (suc k) r
+      go (inr (x, B)) c = now x B
+      go (inl e) (inl z) = inl (e ∙ z)
+      go (inl e) (inr (h, l, B, w)) = inr (
+        h,
+        omega arith,
+        subst (λ y. Sets h y r) (sym e) B,
+        λ j a b. ⊎-elim (λ (z : j ≡ suc k). ap (λ j. S C j .info r) z) (λ n. w j a (omega arith) ∙ sym e) (same? j (suc k)),
+      )
+
   -- the last hold of a record was an H1 of the change that its info names
   pub took-came : (k r : ℕ) → (H k .took r ≡ 0) ⊎ ((h : ℕ) × (h < k) × (H k .took r ≡ suc h) × Sets h (S C k .info r) r)
   unfolding history

@@ -1,17 +1,18 @@
 -- A record that a change has closed by its effect stays as it is: nobody takes hold of it, and nobody else can write there.
 use Prim.Native.Nat.{ℕ, zero, suc, _≤_, _<_}
-use mathlib.Core.Path.{_≡_, sym, ap, _∙_, subst}
-use mathlib.Core.Bool.{true}
-use mathlib.Core.Logic.{inl, _≢_, ⊎-elim}
+use mathlib.Core.Path.{_≡_, refl, sym, ap, _∙_, subst}
+use mathlib.Core.Bool.{true, false}
+use mathlib.Core.Logic.{_⊎_, inl, inr, _≢_, ⊎-elim}
 use native.Mathlib.Omega.{arith}
-use Rattle.clauses.proofs.Updates.{tf, le-split}
-use Rattle.clauses.proofs.Memory.{Terms, Shared, apply, make}
+use Rattle.clauses.proofs.Updates.{upd-miss, same?, tf, le-split}
+use Rattle.clauses.proofs.Memory.{Terms, Shared, apply}
+use Rattle.clauses.proofs.Memory.{Act, nop, hold, abort, freeze, close, write, commit, make}
 use Rattle.clauses.proofs.History.{Ghost, note}
-use Rattle.clauses.proofs.Clauses.{OkOf, Live}
-use Rattle.clauses.proofs.Rights.{not-hap, write-holds}
-use Rattle.clauses.proofs.Frame.{same-terms, stay-hap}
+use Rattle.clauses.proofs.Clauses.{InR, OkOf, Live}
+use Rattle.clauses.proofs.Rights.{lost-frozen, not-hap, write-holds}
+use Rattle.clauses.proofs.Frame.{same-terms, stay-frozen, stay-hap}
 use Rattle.clauses.proofs.Turn.{stays-ok}
-use Rattle.clauses.proofs.Course.{Course, X, S, history, fine, turn, Unstarted, off-live, since-start}
+use Rattle.clauses.proofs.Course.{Course, X, S, history, fine, turn, guard, Unstarted, off-live, since-start}
 use Rattle.clauses.proofs.Came.{Wrote, Writes, alters-by, hap-now}
 use Rattle.clauses.proofs.Sentences.{write-guard, write-live}
 
@@ -112,3 +113,66 @@ module _ (C : Course) where
         closes = rw (turn C k .shared, E, P) q;
         rec = rw (turn C k .shared, E, P);
       }
+
+  -- WHO SET A MARK: a marked record is held by a frozen change that closes it
+  pub record Marked (r j : ℕ) : Type 0 where
+    pub by : ℕ
+    pub nonzero : by ≢ 0
+    pub info : S C j .info r ≡ by
+    pub frozen : S C j .frozen by ≡ true
+    pub closes : InR (S C j) by r
+
+  marked-step : (r j : ℕ) → Marked r j → Marked r (suc j)
+  unfolding history
+  marked-step r j p = record {
+    by = u;
+    nonzero = p .nonzero;
+    info = subst (λ r. S C (suc j) .info r ≡ u) (inR .3) (O .CLOSED frozen (inR .0) (inR .1) (inR .2));
+    frozen = frozen;
+    closes = inR;
+  }
+    where
+      u : ℕ
+      u = p .by
+
+      l : Live (X C j) u
+      l = (p .nonzero, inl (r, p .info))
+
+      O : OkOf (S C (suc j)) (H (suc j)) u
+      O = stays-ok (X C j) (X C (suc j)) (H j) (fine C j) (C .who j) (C .act j) (C .reads j) (turn C j) u l
+
+      same : S C (suc j) .terms u ≡ S C j .terms u
+      same = ap (λ (s : Shared). s .terms u) (turn C j .shared) ∙ same-terms (S C j) (H j) (C .who j) (C .reads j) (C .act j) u (off-live C j u l)
+
+      frozen : S C (suc j) .frozen u ≡ true
+      frozen = ap (λ (s : Shared). s .frozen u) (turn C j .shared) ∙ stay-frozen (S C j) (H j) (C .who j) (C .reads j) (C .act j) u (off-live C j u l) (p .frozen)
+
+      inR : InR (S C (suc j)) u r
+      inR = subst (λ (c : Terms). (i : ℕ) × (i < c .n) × (c .closes i ≡ true) × (c .rec i ≡ r)) (sym same) (p .closes)
+
+  -- a mark that was not there is set by an H6
+  marks-now : (S : Shared) (b : Act) (r : ℕ) → apply b S .mark r ≡ true → (S .mark r ≡ true) ⊎ ((u i : ℕ) × (b ≡ close u i) × (r ≡ S .terms u .rec i))
+  unfolding apply
+  marks-now S nop r h = inl h
+  marks-now S (hold x i) r h = inl h
+  marks-now S (abort x) r h = inl h
+  marks-now S (freeze x) r h = inl h
+  marks-now S (close x i) r h = ⊎-elim (λ (e : r ≡ S .terms x .rec i). inr (x, i, refl, e)) (λ n. inl (sym (upd-miss (S .mark) _ _ n) ∙ h)) (same? r (S .terms x .rec i))
+  marks-now S (write x) r h = inl h
+  marks-now S (commit x) r h = inl h
+  marks-now S (make x c) r h = inl h
+
+  closing : (r j u i : ℕ) → C .act j ≡ close u i → r ≡ S C j .terms u .rec i → Marked r j
+  closing r j u i e q = let g = guard C j (close u i) e in record {
+    by = u;
+    nonzero = λ z. lost-frozen (S C j) (H j) u (g .ok) (g .ok .ABORTED (ap (S C j .state) z ∙ fine C j .ZERO)) (g .frozen);
+    info = ap (S C j .info) q ∙ g .ok .CLOSED (g .frozen) i (g .inside) (g .closes);
+    frozen = g .frozen;
+    closes = (i, g .inside, g .closes, sym q);
+  }
+
+  pub marked-by : ((r : ℕ) → S C 0 .mark r ≡ false) → (j r : ℕ) → S C j .mark r ≡ true → Marked r j
+  marked-by none zero r h = tf h (none r)
+  marked-by none (suc j) r h = marked-step r j (⊎-elim (λ m. marked-by none j r m)
+      (λ (m : (u i : ℕ) × (C .act j ≡ close u i) × (r ≡ S C j .terms u .rec i)). closing r j (m .0) (m .1) (m .2) (m .3))
+      (marks-now (S C j) (C .act j) r (ap (λ (s : Shared). s .mark r) (sym (turn C j .shared)) ∙ h)))

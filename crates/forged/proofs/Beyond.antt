@@ -22,6 +22,7 @@ module _ (m : Machine) (calls : ℕ → Call) where
   unfolding refuses-all refused before
   refuses-all-meets =
       record {
+        is-a-turn = λ k. inl (OutOfShape, refl);
         is-a-change = λ k n r written field new e. inl (OutOfShape, refl);
         is-a-read = λ k h. absurd (true≢false (ap isRefused h));
         once = λ c j k e f. absurd (no-change c);

@@ -12,6 +12,8 @@ use Rattle.rules.specs.Next.{llx}
 use Rattle.clauses.proofs.Updates.{leb-case}
 use Rattle.orders.specs.Demand.{at-h4, before, info, named, Change, Holds, Snap, LinkedRead, Verdict, Demand3}
 use Rattle.forged.specs.Broken.{cached}
+use Rattle.table.specs.Table.{cellAt, recordAt}
+use Rattle.forged.proofs.Tests.{sameList, same-list}
 use Rattle.forged.proofs.Through.{silent, silent-is}
 use Rattle.forged.proofs.Events.{busy, starts, goes-on, begun, steps, verdict}
 use Rattle.forged.proofs.Without.{moves}
@@ -24,6 +26,10 @@ at-work : busy cached table reread A 25 33 ≡ true
 unfolding computed table reread cached
 at-work = refl
 
+told : sameList (cached (before cached table reread 33) (reread 33) .cells) (recordAt (before cached table reread 33) 0 .cells) ≡ true
+unfolding computed table reread cached
+told = refl
+
 second-read : Snap cached table reread 33 A 0
 unfolding computed table reread cached
 second-read = record {
@@ -32,6 +38,7 @@ second-read = record {
   going = goes-on cached table reread A 25 33 refl at-work;
   steps = steps cached table reread 33 A (refl, refl);
   answer = refl;
+  tells = λ f l. ap (λ cs. cellAt cs f) (same-list (cached (before cached table reread 33) (reread 33) .cells) (recordAt (before cached table reread 33) 0 .cells) told);
 }
 
 quiet : silent cached table reread (moves cached table reread 0) 32 38 ≡ true

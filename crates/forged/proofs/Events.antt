@@ -7,20 +7,20 @@ use mathlib.Core.Bool.{Bool, true, false, not, true≢false}
 use mathlib.Core.List.{List}
 use lib.Dec.{eqb, ltb}
 use borrow.Author.Tests.{ltb-true, eqb-false, eq-eqb}
-use Rattle.rules.specs.Words.{After, Own, H1, H7, Machine, Ask, Call, Accepted, Snapshot, Out}
-use Rattle.table.specs.Table.{cellAt, recordAt, changeAt, taskAt, linkAt, sameCell}
+use Rattle.rules.specs.Words.{After, Own, Place, H1, H7, Machine, Ask, Call, Accepted, Snapshot, Out}
+use Rattle.table.specs.Table.{pick, cellAt, recordAt, changeAt, taskAt, sameCell}
 use Rattle.rules.specs.Claim.{both, allBelow}
 use Rattle.rules.proofs.Exact.{both-is, both-on, all-is}
 use Rattle.rules.specs.Access.{changeOf}
 use Rattle.rules.specs.Refuse.{isIdle}
 use Rattle.rules.specs.Next.{llx, scx, stepping}
-use Rattle.orders.specs.Demand.{Brings, leads, answers, before, said, place, cell, info, Steps, Change, named, spot}
+use Rattle.orders.specs.Demand.{Brings, at-h3, at-h4, at-h8, leads, answers, before, said, place, cell, info, Steps, Change, named, spot}
 use Rattle.orders.specs.Demand.{During, Effect, Holds, Starts, Going, Snap, LinkedRead, Verdict}
 use Rattle.orders.proofs.Busy.{idle-or}
 use Rattle.clauses.proofs.Updates.{bool?}
-use Rattle.forged.specs.Places.{isScx, isLlx}
+use Rattle.forged.specs.Places.{isH, isScx, isLlx}
 use Rattle.forged.proofs.Through.{scan-on, throughout, throughout-is, silent, silent-is}
-use Rattle.forged.proofs.Tests.{isRefused, isSnapshot, not-refused, not-same, sameList, same-list, sameLink, same-link}
+use Rattle.forged.proofs.Tests.{isRefused, isSnapshot, not-refused, not-same, sameList, same-list}
 
 -- THE TESTS, of a call and the table before it
 module _ (next : Machine → Call → Out) (m : Machine) (calls : ℕ → Call) where
@@ -38,6 +38,12 @@ module _ (next : Machine → Call → Out) (m : Machine) (calls : ℕ → Call) 
       let r = spot next m calls c in
       sameCell (cellAt (recordAt (next x (calls k) .m) r .cells) (c .field)) (cellAt (recordAt x r .cells) (c .field))
 
+  -- call k comes from a place of c where work on it may end
+  abbrev pub ending : Change next m calls → ℕ → Machine → Bool
+  ending c k x =
+      let q = taskAt x (calls k .task) .place in
+      both (eqb (changeOf q) (c .number)) (pick (isH 3 q) true (pick (isH 4 q) true (isH 8 q)))
+
   -- t is busy after call s, up to call k; call s asks for an LLX of r by t, which then is busy up to call k
   abbrev pub busy : ℕ → ℕ → ℕ → Bool
   busy t s k = throughout next m calls (λ j x. not (isIdle (taskAt x t .place))) s (suc k)
@@ -50,10 +56,6 @@ module _ (next : Machine → Call → Out) (m : Machine) (calls : ℕ → Call) 
   snaps t r k x =
       both (both (eqb (calls k .task) t) (isSnapshot (next x (calls k) .answer)))
       (not (allBelow k (λ s. not (reads t r k s))))
-
-  -- t's link to r is as in the table y
-  abbrev pub stays : ℕ → ℕ → Machine → ℕ → Machine → Bool
-  stays t r y k x = sameLink (linkAt x t r) (linkAt y t r)
 
   -- call k is a STEP of t that is not refused
   abbrev pub going : ℕ → ℕ → Type 0
@@ -131,8 +133,9 @@ module _ {next : Machine → Call → Out} {m : Machine} {calls : ℕ → Call} 
 
   pub hold : (c : Change next m calls) (k r t i : ℕ) (after : After) → within next m calls c k ≡ true → going next m calls k t
       → place next m calls k t ≡ H1 (c .number) i after → ltb i (c .n) ≡ true → named next m calls c i ≡ r
-      → info next m calls (suc k) r ≡ c .number → eqb (info next m calls k r) (c .number) ≡ false → Holds next m calls c k r
-  hold c k r t i after w s q l e took was =
+      → info next m calls (suc k) r ≡ c .number → eqb (info next m calls k r) (c .number) ≡ false
+      → silent next m calls (ending next m calls c) (c .start) k ≡ true → Holds next m calls c k r
+  hold c k r t i after w s q l e took was still =
       record {
         during = during c k w;
         by = t;
@@ -143,7 +146,15 @@ module _ {next : Machine → Call → Out} {m : Machine} {calls : ℕ → Call} 
         names = (ltb-true i (c .n) l, e);
         takes = took;
         alters = eqb-false (info next m calls k r) (c .number) was;
+        unfinished = λ j b l h. silent-is next m calls (ending next m calls c) (c .start) k still j (h .during .later) l
+            (ends (h .brings) (ap (λ t. place next m calls j t) (sym (h .steps .by))));
       }
+    where
+      ends : {after : After} {frozen b : Bool} {p q : Place} → Brings (c .number) after frozen p b → p ≡ q
+          → both (eqb (changeOf q) (c .number)) (pick (isH 3 q) true (pick (isH 4 q) true (isH 8 q))) ≡ true
+      ends (at-h3 f) e = rw (← e) (both-on (eqb (c .number) (c .number)) true (eq-eqb (c .number) (c .number) refl) refl)
+      ends at-h4 e = rw (← e) (both-on (eqb (c .number) (c .number)) true (eq-eqb (c .number) (c .number) refl) refl)
+      ends at-h8 e = rw (← e) (both-on (eqb (c .number) (c .number)) true (eq-eqb (c .number) (c .number) refl) refl)
 
   pub verdict : (c : Change next m calls) (k t : ℕ) (after : After) (b : Bool) → within next m calls c k ≡ true
       → going next m calls k t
@@ -173,11 +184,9 @@ module _ {next : Machine → Call → Out} {m : Machine} {calls : ℕ → Call} 
       → busy next m calls (c .task) s e ≡ true → ltb e (c .start) ≡ true → going next m calls e (c .task)
       → said next m calls e ≡ Snapshot
       → silent next m calls (snaps next m calls (c .task) r) e (c .start) ≡ true
-      → throughout next m calls (stays next m calls (c .task) r (before next m calls (suc e))) e (suc (c .start)) ≡ true
-      → sameList (linkAt (before next m calls (suc e)) (c .task) r .cells) (next (before next m calls e) (calls e) .cells) ≡ true
+      → sameList (next (before next m calls e) (calls e) .cells) (recordAt (before next m calls e) r .cells) ≡ true
       → LinkedRead next m calls c r e
-  linked c r s e asks acc f b l g x only stands saw =
-      let y = before next m calls (suc e) in
+  linked c r s e asks acc f b l g x only tells =
       record {
         before-start = ltb-true e (c .start) l;
         ends = record {
@@ -186,10 +195,7 @@ module _ {next : Machine → Call → Out} {m : Machine} {calls : ℕ → Call} 
           going = goes-on next m calls (c .task) s e f b;
           steps = steps next m calls e (c .task) g;
           answer = x;
+          tells = λ f l. ap (λ cs. cellAt cs f) (same-list (next (before next m calls e) (calls e) .cells) (recordAt (before next m calls e) r .cells) tells);
         };
         last = λ j l1 l2 h. silent-is next m calls (snaps next m calls (c .task) r) e (c .start) only j l1 l2 (snaps-is (c .task) r j h);
-        saw = same-list (linkAt y (c .task) r .cells) (next (before next m calls e) (calls e) .cells) saw;
-        stands = λ j l1 l2.
-            same-link (linkAt (before next m calls j) (c .task) r) (linkAt y (c .task) r)
-            (throughout-is next m calls (stays next m calls (c .task) r y) e (suc (c .start)) stands j l1 (omega arith));
       }

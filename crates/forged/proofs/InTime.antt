@@ -2,19 +2,18 @@
 -- And a machine whose LLX begins again at L6 exceeds them: B changes 0 each time that A comes there.
 use Prim.Native.Nat.{ℕ, suc, _<_}
 use native.Mathlib.Omega.{arith}
-use mathlib.Core.Path.{_≡_, refl}
+use mathlib.Core.Path.{_≡_, refl, sym, _∙_}
 use mathlib.Core.Bool.{Bool, true, false, true≢false}
 use mathlib.Core.List.{List, _∷_, _++_}
 use lib.Dec.{eqb}
 use borrow.Author.Tests.{eqb-true, ne-eqb}
-use Rattle.rules.specs.Words.{Aborted, Idle, Machine, Ask, AskLlx, AskScx, AskVlx, AskRead, Call, Snapshot, Yes}
-use Rattle.table.specs.Table.{pick, recordAt, changeAt, stateOf}
+use Rattle.rules.specs.Words.{Idle, Machine, Ask, AskLlx, AskScx, AskVlx, AskRead, Call, Snapshot, Yes}
+use Rattle.table.specs.Table.{pick, recordAt}
 use Rattle.rules.specs.Next.{next, llx, vlx, read}
-use Rattle.orders.specs.Demand.{before, said, place, info, named, Starts, Going, Change}
+use Rattle.orders.specs.Demand.{before, said, place, info, named, Starts, Going, Change, Holds}
 use Rattle.bounds.specs.Bounds.{own, UndisturbedScx, UndisturbedLlx, Bounds}
 use Rattle.forged.specs.Broken.{begins-again}
 use Rattle.forged.proofs.Through.{throughout, throughout-is}
-use Rattle.clauses.proofs.Rights.{AI}
 use Rattle.forged.proofs.Events.{starts, goes-on, begun}
 use Rattle.forged.proofs.Script.{computed, table, script, A, B, goes, reads, writes, closes, just}
 
@@ -66,21 +65,21 @@ info-kept : (j : ℕ) → kept j (before next table between j) ≡ true → info
 unfolding before
 info-kept j h = eqb-true _ _ h
 
+-- where the info stays, nobody takes hold
+nobody : (c : Change next table between) (j r : ℕ) → r ≡ 0 → info next table between (suc j) 0 ≡ info next table between j 0
+    → Holds next table between c j r → ⊥
+nobody c j r z e H = H .alters (rw z (sym e) ∙ H .takes)
+
 not-own : (b x : Bool) → b ≡ false → pick b true x ≡ true → x ≡ true
 not-own true x e h = absurd (true≢false e)
 not-own false x e h = h
 
-ended : stateOf (info next table between 0 0) (changeAt (before next table between 0) (info next table between 0 0)) ≡ Aborted
-unfolding computed table between
-ended = refl
-
 pub undisturbed-llx-speaks : UndisturbedLlx next table between 0 A 0 20
-unfolding computed table between
 undisturbed-llx-speaks =
     record {
-      no-mark = refl;
-      not-held = λ e. AI ended e;
-      untouched = λ j l1 l2 n. info-kept j (throughout-is next table between kept 0 20 before-scx j l1 l2);
+      not-closed = λ c j l. absurd (omega arith);
+      not-held = λ c j l. absurd (omega arith);
+      untouched = λ c j l1 l2 n H. nobody c j 0 refl (info-kept j (throughout-is next table between kept 0 20 before-scx j l1 l2)) H;
     }
 
 abbrev pub change : Change next table between
@@ -95,11 +94,11 @@ pub undisturbed-scx-speaks : UndisturbedScx next table between change 30
 unfolding change
 undisturbed-scx-speaks =
     record {
-      since-read = λ i e j l R l1 l2. rw (only-0 i l) (info-kept j (throughout-is next table between kept 0 20 before-scx j (omega arith) l2));
-      untouched = λ j l1 l2 n i l.
-          rw (only-0 i l)
+      since-read = λ d i e j l R l1 l2 H. nobody d j (named next table between change i) (only-0 i l)
+          (info-kept j (throughout-is next table between kept 0 20 before-scx j (omega arith) l2)) H;
+      untouched = λ d i j l l1 l2 n H. nobody d j (named next table between change i) (only-0 i l)
           (info-kept j (not-own (eqb (between j .task) A) (kept j (before next table between j)) (ne-eqb (between j .task) A n)
-          (throughout-is next table between (λ j x. pick (eqb (between j .task) A) true (kept j x)) 20 30 during-scx j l1 l2)));
+          (throughout-is next table between (λ j x. pick (eqb (between j .task) A) true (kept j x)) 20 30 during-scx j l1 l2))) H;
     }
 
 -- llx: 39 own steps, and no end

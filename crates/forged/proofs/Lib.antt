@@ -12,3 +12,4 @@ pub mod Others
 pub mod Beyond
 pub mod Cached
 pub mod InTime
+pub mod Finished

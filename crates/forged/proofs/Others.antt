@@ -101,7 +101,7 @@ unfolding computed table short one-more
 one-more-fails D =
     let c = begun one-more table short 10 A 1 (just 0) 0 0 0 7 1 refl refl refl in
     let e = effect c 13 A Own refl (refl, refl) refl refl in
-    let z : _≡_ {A = ℕ} 8 7 = ap (λ x. x .value) (D .alters-its-field c 13 e .1) in
+    let z : _≡_ {A = ℕ} 8 7 = ap (λ x. x .value) (D .alters-its-field c 13 e) in
     absurd (omega arith)
 
 -- not-taken, a number given twice: B's start takes the number that A works on

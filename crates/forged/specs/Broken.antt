@@ -3,6 +3,7 @@
 use Prim.Native.Nat.{ℕ, zero, suc, _+_}
 use mathlib.Core.Bool.{Bool, true, false}
 use lib.Dec.{eqb, ltb}
+use lib.ListN.{getD, set}
 use Rattle.rules.specs.Words.{State, InProgress, Committed, Aborted, Cell, Place, L1, H4, H5, H6, H7, H8, Seen, Move}
 use Rattle.rules.specs.Words.{Access, Nothing, Hold, Write, Commit, Machine, Out, Call, Yes, OutOfShape, Snapshot, Idle}
 use Rattle.rules.specs.Words.{Ask, AskLlx, AskScx, AskVlx, AskRead, AskStep}
@@ -160,3 +161,28 @@ cached m e = keepLink (e .ask) m (e .task) (nextBy stepCached m e)
 -- an LLX that finds the info altered at L6 begins again
 unfoldable pub begins-again : Machine → Call → Out
 begins-again = leading (λ m q v. pick (isL 6 q) (pick (isL 7 (v .place)) (on (L1 (readAt q))) v) v)
+
+-- H8 sets nothing: a change that took effect stays InProgress
+unfoldable pub never-commits : Machine → Call → Out
+never-commits = doing (λ m q a. pick (isH 8 q) Nothing a)
+
+-- H8 lets go of the first record: its info is 0 again
+abbrev pub freed : Machine → ℕ → Machine
+freed m r =
+    record {
+      p = m .p;
+      n = m .n;
+      used = m .used;
+      records = set (m .records) r (record { cells = recordAt m r .cells; mark = recordAt m r .mark; info = 0 });
+      changes = m .changes;
+      tasks = m .tasks;
+      links = m .links;
+    }
+
+unfoldable pub lets-go : Machine → Call → Out
+lets-go =
+    nextBy
+    (λ m t.
+    let q = taskAt m t .place in
+    let o = step m t in
+    pick (isH 8 q) (record { m = freed (o .m) (getD (changeAt m (changeOf q) .v) 0 0); answer = o .answer; cells = o .cells }) o)

@@ -10,7 +10,7 @@ use lib.ListN.{getD}
 use borrow.Author.Tests.{eq-eqb}
 use Rattle.rules.specs.Start.{places}
 use Rattle.rules.specs.Words.{Record, Machine, AskStep, Call}
-use Rattle.table.specs.Table.{pick, cellAt, recordAt, taskAt, linkAt}
+use Rattle.table.specs.Table.{pick, cellAt, recordAt, taskAt}
 use Rattle.rules.specs.Next.{next}
 use Rattle.keeps.proofs.Refused.{isRefusal, passed-answers}
 use Rattle.clauses.proofs.Updates.{same?, leb-case}
@@ -120,13 +120,9 @@ module _ (m : Machine) (calls : ℕ → Call) (R : Run m calls) where
           (λ i a b. alone m calls R c k (D .during) i (omega (arith, E .during .later)) b)
 
   pub alters-its-field : (c : Ch) (k : ℕ) → Effect next m calls c k
-      → (cell next m calls k (spot next m calls c) (c .field) ≡ cellAt (linkAt (M (c .start)) (c .task) (spot next m calls c) .cells) (c .field))
-      × (cell next m calls (suc k) (spot next m calls c) (c .field) ≡ record { value = c .new; stamp = c .number })
-  alters-its-field c k E =
-      let (a, b) = write-alters C (c .start) (c .number) (terms m calls R c) (makes m calls R c) k (E .during .later) (alone m calls R c k (E .during)) (writes c k E) in (
-        sym (cell-is k (spot next m calls c) (c .field) (spot-inside c)) ∙ a,
-        sym (cell-is (suc k) (spot next m calls c) (c .field) (spot-inside c)) ∙ b,
-      )
+      → cell next m calls (suc k) (spot next m calls c) (c .field) ≡ record { value = c .new; stamp = c .number }
+  alters-its-field c k E = sym (cell-is (suc k) (spot next m calls c) (c .field) (spot-inside c))
+      ∙ write-alters C (c .start) (c .number) (terms m calls R c) (makes m calls R c) k (E .during .later) (alone m calls R c k (E .during)) (writes c k E) .1
 
   -- "A change without effect alters no field"
   pub by-an-effect : (k r f : ℕ) → r < m .n

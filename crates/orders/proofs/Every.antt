@@ -11,6 +11,7 @@ use Rattle.rules.specs.Words.{Machine, Call}
 use Rattle.orders.proofs.Run.{Run}
 use Rattle.orders.proofs.FromFresh.{run}
 use Rattle.orders.proofs.Changes.{is-a-change}
+use Rattle.orders.proofs.Asked.{is-a-turn}
 use Rattle.orders.proofs.Effects.{once, alters-its-field, by-an-effect, closed}
 use Rattle.orders.proofs.Snaps.{is-a-read}
 use Rattle.orders.proofs.Untouched.{untouched}
@@ -20,6 +21,7 @@ use Rattle.orders.proofs.Working.{finishes, not-taken}
 pub demand3 : (m : Machine) (calls : ℕ → Call) → Run m calls → Demand3 next m calls
 demand3 m calls R =
     record {
+      is-a-turn = is-a-turn m calls R;
       is-a-change = is-a-change m calls R;
       is-a-read = is-a-read m calls R;
       once = once m calls R;

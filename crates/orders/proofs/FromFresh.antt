@@ -12,9 +12,10 @@ use lib.Seq.{getD-set-other}
 use lib.Dec.{ltb}
 use borrow.Author.Tests.{ltb-true}
 use Rattle.rules.specs.Words.{Counts, Accepted, Refused}
-use Rattle.rules.specs.Words.{Machine, Task, Link, Idle, AskLlx, AskScx, AskVlx, AskRead, AskStep, Ask, Call, Check, Passed, Failed, Out}
-use Rattle.table.specs.Table.{pick, noCells, maxRecords, noTask, noLink, taskAt, slot}
-use Rattle.table.specs.Fresh.{idleTask, emptyRecord, emptyLink, freshRecords, freshMachine, inRange, fresh}
+use Rattle.rules.specs.Words.{Machine, Record, Task, Link, Idle, AskLlx, AskScx, AskVlx, AskRead, AskStep, Ask, Call, Check, Passed, Failed, Out}
+use Rattle.table.specs.Table.{pick, noCells, maxRecords, noRecord, noTask, noLink, taskAt, slot}
+use Rattle.table.proofs.Tabulate.{getD-tabulate}
+use Rattle.table.specs.Fresh.{idleTask, freshRecord, emptyRecord, emptyLink, freshRecords, freshMachine, inRange, fresh}
 use Rattle.rules.specs.Perform.{perform}
 use Rattle.rules.specs.Access.{recordOf}
 use Rattle.rules.specs.Step.{settle, accessAt, moveAt, step}
@@ -33,7 +34,7 @@ use Rattle.clauses.proofs.History.{none-yet}
 use Rattle.clauses.proofs.Clauses.{Live}
 use Rattle.clauses.proofs.Clauses.{Fine as Clauses}
 use Rattle.orders.specs.Demand.{before}
-use Rattle.orders.proofs.View.{taskIn, linkIn, view, leadsTo}
+use Rattle.orders.proofs.View.{recordIn, taskIn, linkIn, view, leadsTo}
 use Rattle.orders.proofs.Number.{info-known, stamp-known, live-known}
 use Rattle.orders.proofs.Linked.{stores}
 use Rattle.orders.proofs.Settled.{steps-to, llx-starts, scx-starts, vlx-starts, read-starts}
@@ -117,6 +118,17 @@ module _ (p n : ℕ) (values : List ℕ) (ok : inRange p n (length values) ≡ t
           let s : from .n ≡ n = ap (λ (m : Machine). m .n) fresh-is in
           omega (arith, q, s, fine from fresh-shaped .p<9, fine from fresh-shaped .n<33)
 
+  unmarked : (r : ℕ) → recordIn from r .mark ≡ false
+  unfolding freshMachine freshRecords
+  unmarked r = rw fresh-is (picked (λ (x : Record). x .mark ≡ false) (ltb r n) (getD (freshRecords n values) r noRecord) noRecord
+      (λ e. let l : r < 32 = few r (ltb-true r n e) in
+      ap (λ (x : Record). x .mark) (getD-tabulate 32 (λ r. pick (ltb r n) (freshRecord values r) emptyRecord) r noRecord l)
+      ∙ picked (λ (x : Record). x .mark ≡ false) (ltb r n) (freshRecord values r) emptyRecord (λ e. refl) (λ e. refl))
+      (λ e. refl))
+    where
+      few : (r : ℕ) → r < n → r < 32
+      few r h = let q : from .n ≡ n = ap (λ (m : Machine). m .n) fresh-is in omega (arith, q, fine from fresh-shaped .n<33)
+
   nobody : (u : ℕ) → Live (view from) u → ⊥
   nobody u l = let (a, b) = live-known from (fine from fresh-shaped) u l in omega (arith, unused)
 
@@ -190,15 +202,17 @@ module _ (p n : ℕ) (values : List ℕ) (ok : inRange p n (length values) ≡ t
         place-after k _ P h _ (steps-to (M k) (fine (M k) (in-shape k)) (sized k) (calls k .task) h)
 
     snapshots : (k : ℕ) → Passes (M k) (calls k) AskStep → moveAt (M k) (calls k .task) .store ≡ true
-        → linkIn (M (suc k)) (calls k .task) (recordOf (accessAt (M k) (calls k .task))) .cells ≡ next (M k) (calls k) .cells
+        → (linkIn (M (suc k)) (calls k .task) (recordOf (accessAt (M k) (calls k .task))) .there ≡ true)
+        × (linkIn (M (suc k)) (calls k .task) (recordOf (accessAt (M k) (calls k .task))) .cells ≡ next (M k) (calls k) .cells)
     unfolding before step
     snapshots k P e =
         let t = calls k .task in
+        let r = recordOf (accessAt (M k) t) in
         let q = next-is (M k) (calls k) AskStep P in
-        ap (λ (o : Out). linkIn (o .m) t (recordOf (accessAt (M k) t)) .cells) q
-        ∙ ap (λ (l : Link). l .cells) (stores (M k) (fine (M k) (in-shape k)) (sized k) t (obeyed (M k) (calls k) AskStep P .0) e)
-        ∙ ap (λ b. pick b (taskAt (M k) t .cells) noCells) (sym e)
-        ∙ ap (λ (o : Out). o .cells) (sym q)
+        let link = ap (λ (o : Out). linkIn (o .m) t r) q ∙ stores (M k) (fine (M k) (in-shape k)) (sized k) t (obeyed (M k) (calls k) AskStep P .0) e in (
+          ap (λ (l : Link). l .there) link,
+          ap (λ (l : Link). l .cells) link ∙ ap (λ b. pick b (taskAt (M k) t .cells) noCells) (sym e) ∙ ap (λ (o : Out). o .cells) (sym q),
+        )
 
     -- EVERY RUN FROM A FRESH TABLE
     pub run : Run from calls
@@ -207,6 +221,7 @@ module _ (p n : ℕ) (values : List ℕ) (ok : inRange p n (length values) ≡ t
       shaped = λ k. fine (M k) (in-shape k);
       same-p = λ k. counts k .0;
       same-n = λ k. counts k .1;
+      unmarked = unmarked;
       idle = all-idle;
       past = past;
       snapshots = snapshots;

@@ -19,7 +19,9 @@ pub mod Snaps
 pub mod Untouched
 pub mod Busy
 pub mod Verdicts
+pub mod Holders
 pub mod Working
+pub mod Asked
 pub mod Every
 pub mod Given
 pub mod Stamps

@@ -30,13 +30,16 @@ pub record Run (m : Machine) (calls : ℕ → Call) : Type 0 where
   pub turns : (k : ℕ) (G : Ghost) → Clauses (view (before next m calls k)) G
       → Turn (view (before next m calls k)) (view (before next m calls (suc k))) G (calls k .task) (did (before next m calls k) (calls k))
       (reading (before next m calls k) (calls k))
+  -- at first no record is marked
+  pub unmarked : (r : ℕ) → recordIn (before next m calls 0) r .mark ≡ false
   -- at first all tasks are idle, and those past P for good
   pub idle : (t : ℕ) → taskAt (before next m calls 0) t .place ≡ Idle
   pub past : (k t : ℕ) → m .p ≤ t → taskAt (before next m calls k) t .place ≡ Idle
-  -- the cells of a snapshot are those of the link that it stores
+  -- a snapshot stores a link, and its cells are the snapshot's
   pub snapshots : (k : ℕ) → Passes (before next m calls k) (calls k) AskStep → moveAt (before next m calls k) (calls k .task) .store ≡ true
-      → linkIn (before next m calls (suc k)) (calls k .task) (recordOf (accessAt (before next m calls k) (calls k .task))) .cells
-      ≡ next (before next m calls k) (calls k) .cells
+      → (linkIn (before next m calls (suc k)) (calls k .task) (recordOf (accessAt (before next m calls k) (calls k .task))) .there ≡ true)
+      × (linkIn (before next m calls (suc k)) (calls k .task) (recordOf (accessAt (before next m calls k) (calls k .task))) .cells
+      ≡ next (before next m calls k) (calls k) .cells)
   pub goes-to : (k : ℕ) (ask : Ask) → Passes (before next m calls k) (calls k) ask
       → taskAt (before next m calls (suc k)) (calls k .task) .place ≡ leadsTo (before next m calls k) (calls k .task) ask
 

@@ -9,24 +9,36 @@ use Rattle.rules.specs.Words.{Machine, Task, Out}
 use Rattle.rules.specs.Words.{Place, Idle, L1}
 use Rattle.rules.specs.Words.{Ask, AskLlx, AskScx, AskVlx, AskRead, AskStep, Call, Check, Passed, Failed}
 use Rattle.rules.specs.Words.{Snapshot}
-use Rattle.table.specs.Table.{taskAt}
-use Rattle.rules.specs.Step.{moveAt, step}
+use Rattle.table.specs.Table.{cellAt, taskAt}
+use Rattle.rules.specs.Access.{recordOf}
+use Rattle.rules.specs.Step.{accessAt, moveAt, step}
 use Rattle.rules.specs.Refuse.{isIdle, check, rulesOf}
 use Rattle.rules.specs.Next.{refused, started, accepted, answered, next}
 use Rattle.clauses.proofs.Updates.{same?, leb-case, tf}
+use Rattle.clauses.proofs.Memory.{nop, write}
 use Rattle.clauses.proofs.History.{Reading}
+use Rattle.clauses.proofs.Steps.{actAt}
+use Rattle.clauses.proofs.Course.{Course, S, fine, now-is}
+use Rattle.clauses.proofs.Came.{Wrote, alters-by}
+use Rattle.clauses.proofs.LinkedReads.{Ends, read-at}
 use Rattle.orders.specs.Demand.{before, said, place, Starts, Going, Snap}
-use Rattle.orders.proofs.View.{reading}
+use Rattle.orders.proofs.View.{linkIn, reading}
 use Rattle.orders.proofs.Frames.{tasks-stay}
 use Rattle.orders.proofs.Calls.{Passes, accepts, next-is, reading-is, obeyed, snapped}
-use Rattle.orders.proofs.Run.{Run, inside, task-in}
+use Rattle.orders.proofs.Run.{Run, course, inside, task-in}
 use Rattle.orders.proofs.Busy.{idle-or}
-use Rattle.orders.proofs.Effects.{passed-steps}
+use Rattle.orders.proofs.Effects.{cell-is, passed-steps, act-is}
 use Rattle.orders.proofs.Ways.{of, isSnapshot, moves}
 
 module _ (m : Machine) (calls : ℕ → Call) (R : Run m calls) where
   abbrev M : ℕ → Machine
   M k = before next m calls k
+
+  abbrev C : Course
+  C = course m calls R
+
+  abbrev Link-at : ℕ → ℕ → ℕ → Type 0
+  Link-at e t r = (linkIn (M (suc e)) t r .there ≡ true) × (linkIn (M (suc e)) t r .cells ≡ next (M e) (calls e) .cells)
 
   abbrev at : ℕ → ℕ → ℕ
   at k t = of (place next m calls k t)
@@ -117,13 +129,55 @@ module _ (m : Machine) (calls : ℕ → Call) (R : Run m calls) where
       go Passed c s = asked (calls k .ask) (record { passed = c; asks = refl })
       go (Failed why) c s = absurd (false≢true (ap isSnapshot s))
 
+  -- the link that it stores, with the cells that it answers
+  pub stored : (e t r : ℕ) → Ends C e t r → (linkIn (M (suc e)) t r .there ≡ true) × (linkIn (M (suc e)) t r .cells ≡ next (M e) (calls e) .cells)
+  stored e t r E =
+      let (P, at, said) = snapped (M e) (calls e) (E .ends) in
+      let k = reading-is (M e) (calls e) AskStep P in
+      let store = sym (ap (λ (k : Reading). k .ends) k) ∙ E .ends in
+      let at-r = sym (ap (λ (k : Reading). k .at) k) ∙ E .of in
+      subst (λ r. Link-at e t r) at-r (subst (λ t. Link-at e t (recordOf (accessAt (M e) (calls e .task)))) (E .by) (R .snapshots e P store))
+
+  -- nobody has taken hold since, so they are those of the record
+  tells : (e t r : ℕ) → Ends C e t r → (f : ℕ) → f < 4 → cellAt (next (M e) (calls e) .cells) f ≡ S C (suc e) .cell r f
+  tells e t r E f l =
+      let (there, cells) = stored e t r E in
+      let (j, A) = read-at C (suc e) t r there in
+      let now : j ≡ e = ⊎-elim (λ q. q) (λ n. absurd (A .last e (omega (arith, A .before)) (omega arith) E)) (same? j e) in
+      let (anchor, snap, ended) = fine C (suc e) .LINKS t r there in
+      let stands : S C (suc e) .info r ≡ linkIn (M (suc e)) t r .info = ⊎-elim (λ q. q)
+      (λ n. absurd (omega (arith, anchor .TAKEN n, A .time, now, fine C (suc e) .PAST r .0, now-is C (suc e)))) (same? (S C (suc e) .info r) (linkIn (M (suc e)) t r .info)) in
+      ap (λ cs. cellAt cs f) (sym cells) ∙ sym (snap stands f l)
+
+  -- an L6 alters no cell
+  still : (k : ℕ) → reading (M k) (calls k) .ends ≡ true → (r f : ℕ) → S C (suc k) .cell r f ≡ S C k .cell r f
+  unfolding actAt
+  still k h r f =
+      let (P, (x, m1, a, q, e), answer) = snapped (M k) (calls k) h in
+      let act : C .act k ≡ nop = act-is m calls R k (calls k .task) (passed-steps m calls R k P) ∙ ap (λ q. actAt (S C k) q) q in
+      ⊎-elim (λ e. e) (λ (w : Wrote (S C k) (C .act k) r f). none (w .0) (sym act ∙ w .1)) (alters-by C k r f)
+    where
+      none : (u : ℕ) → nop ≡ write u → S C (suc k) .cell r f ≡ S C k .cell r f
+      none u e = let z : _≡_ {A = ℕ} 0 1 = cc in absurd (omega arith)
+
+  record-inside : (s t r : ℕ) → Starts next m calls s t (AskLlx r) → r < m .n
+  record-inside s t r B = subst (λ n. r < n) (R .same-n s)
+      (obeyed (M s) (calls s) _ (record { passed = accepts (M s) (calls s) (B .accepted); asks = ap (λ (c : Call). c .ask) (B .asks) }) .1 .1 .0)
+
   -- EVERY SNAPSHOT ENDS AN LLX, and that of the record whose link it stores
   snap-at : (k : ℕ) → reading (M k) (calls k) .ends ≡ true → Snap next m calls k (calls k .task) (reading (M k) (calls k) .at)
   snap-at k h =
       let (P, (r, m1, a, q, e), answer) = snapped (M k) (calls k) h in
       let (s, B, g) = since k (calls k .task) r (ap of q) in
       subst (λ r. Snap next m calls k (calls k .task) r) (sym e)
-      (record { start = s; starts = B; going = g; steps = passed-steps m calls R k P; answer = answer })
+      (record {
+        start = s;
+        starts = B;
+        going = g;
+        steps = passed-steps m calls R k P;
+        answer = answer;
+        tells = λ f l. tells k (calls k .task) r (record { by = refl; ends = h; of = e }) f l ∙ still k h r f ∙ cell-is m calls R k r f (record-inside s _ r B);
+      })
 
   pub snap-of : (k t r : ℕ) → calls k .task ≡ t → reading (M k) (calls k) .ends ≡ true → reading (M k) (calls k) .at ≡ r → Snap next m calls k t r
   snap-of k t r w h e = subst (λ t. Snap next m calls k t r) w (subst (λ r. Snap next m calls k (calls k .task) r) e (snap-at k h))

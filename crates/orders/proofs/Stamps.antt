@@ -54,7 +54,7 @@ module _ (p n : ℕ) (values : List ℕ) (ok : inRange p n (length values) ≡ t
         omega arith,
         E,
         sym (ap (λ (c : Cell). c .stamp) (ap (λ r. cell next m calls (suc j) r f) a
-            ∙ ap (λ f. cell next m calls (suc j) (spot next m calls c) f) b ∙ alters-its-field m calls R c j E .1)),
+            ∙ ap (λ f. cell next m calls (suc j) (spot next m calls c) f) b ∙ alters-its-field m calls R c j E)),
         a,
         b,
       ))

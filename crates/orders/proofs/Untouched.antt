@@ -2,22 +2,19 @@
 use Prim.Native.Nat.{ℕ, suc, _<_}
 use mathlib.Core.Path.{_≡_, sym, ap, _∙_, subst}
 use mathlib.Core.Bool.{true}
-use Rattle.rules.specs.Words.{Machine, Link, Call, AskStep}
+use Rattle.rules.specs.Words.{Machine, Link, Call}
 use Rattle.table.specs.Table.{linkAt}
-use Rattle.rules.specs.Access.{recordOf}
-use Rattle.rules.specs.Step.{accessAt}
 use Rattle.rules.specs.Shape.{allLinked}
 use Rattle.rules.specs.Refuse.{linkedAt}
 use Rattle.rules.specs.Next.{next}
 use Rattle.rules.proofs.Exact.{told}
 use Rattle.clauses.proofs.Memory.{Terms}
-use Rattle.clauses.proofs.History.{Reading}
 use Rattle.clauses.proofs.Course.{Course, history}
 use Rattle.clauses.proofs.LinkedReads.{Ends, read-at}
 use Rattle.clauses.proofs.Sentences.{untouched as none-touched}
 use Rattle.orders.specs.Demand.{before, Change, named, Names, Effect, Snap, LinkedRead, Still}
 use Rattle.orders.proofs.View.{linkIn}
-use Rattle.orders.proofs.Calls.{obeyed, reading-is, snapped}
+use Rattle.orders.proofs.Calls.{obeyed}
 use Rattle.orders.proofs.Run.{Run, course, link-in}
 use Rattle.orders.proofs.Snaps.{snap-of, read-is}
 use Rattle.orders.proofs.Changes.{by-task, passes, terms, makes, alone}
@@ -36,16 +33,6 @@ module _ (m : Machine) (calls : ℕ → Call) (R : Run m calls) where
   -- the end of a linked read, as the statement and as the course have it
   ends-of : (e t r : ℕ) → Snap next m calls e t r → Ends C e t r
   ends-of e t r B = let (w, h, q) = read-is m calls R e t r B in record { by = w; ends = h; of = q }
-
-  -- its cells are those that the call answers
-  snap-cells : (e t r : ℕ) → Ends C e t r → linkIn (M (suc e)) t r .cells ≡ next (M e) (calls e) .cells
-  snap-cells e t r E =
-      let (P, at, said) = snapped (M e) (calls e) (E .ends) in
-      let k = reading-is (M e) (calls e) AskStep P in
-      let store = sym (ap (λ (k : Reading). k .ends) k) ∙ E .ends in
-      let at-r = sym (ap (λ (k : Reading). k .at) k) ∙ E .of in
-      subst (λ r. linkIn (M (suc e)) t r .cells ≡ next (M e) (calls e) .cells) at-r
-      (subst (λ t. linkIn (M (suc e)) t (recordOf (accessAt (M e) (calls e .task))) .cells ≡ next (M e) (calls e) .cells) (E .by) (R .snapshots e P store))
 
   -- the links of a change's task to the records that it names stand at its start
   linked : (c : Ch) (i : ℕ) → i < c .n → linkAt (M (c .start)) (c .task) (named next m calls c i) .there ≡ true
@@ -77,9 +64,6 @@ module _ (m : Machine) (calls : ℕ → Call) (R : Run m calls) where
           before-start = A .before;
           ends = snap-of m calls R e (c .task) r (A .ended .by) (A .ended .ends) (A .ended .of);
           last = λ j a b B. A .last j a b (ends-of j (c .task) r B);
-          saw = ap (λ (k : Link). k .cells) (sym (link-is c (suc e) i h)) ∙ snap-cells e (c .task) r (A .ended);
-          stands = λ j a b. let q = sym (link-is c j i h) ∙ A .stands j a b ∙ link-is c (suc e) i h in
-              (ap (λ (k : Link). k .there) (q ∙ sym (link-is c (suc e) i h)) ∙ A .there, q);
         },
         ap (λ t. history C (c .start) .read t r) (by-task m calls R c) ∙ A .time,
       )

@@ -6,15 +6,19 @@ use mathlib.Core.Bool.{Bool, true, false}
 use mathlib.Core.Logic.{_≢_, ⊎-elim}
 use mathlib.Core.List.{List}
 use native.Mathlib.Omega.{arith}
-use Rattle.rules.specs.Words.{Cell, Record, After, Machine, Place, H1, Call}
+use native.Mathlib.Nat.{le-refl}
+use Rattle.rules.specs.Words.{Cell, Record, InProgress, Committed, After, Machine, Place, H1, Call}
 use Rattle.table.specs.Table.{taskAt}
 use Rattle.rules.specs.Access.{changeOf}
 use Rattle.rules.specs.Next.{next}
-use Rattle.clauses.proofs.Memory.{Terms, Shared, make}
+use Rattle.clauses.proofs.Updates.{upd-hit}
+use Rattle.clauses.proofs.Memory.{Terms, Shared, make, hold, apply}
+use Rattle.clauses.proofs.Steps.{actAt}
+use Rattle.clauses.proofs.Frame.{stay-ended}
 use Rattle.clauses.proofs.History.{Ghost}
 use Rattle.clauses.proofs.Clauses.{OkOf, LostOf, At, Live}
-use Rattle.clauses.proofs.Rights.{lost-frozen}
-use Rattle.clauses.proofs.Course.{Course, X, S, history, fine, born, since-start}
+use Rattle.clauses.proofs.Rights.{CI, AI, lost-frozen, hold-going}
+use Rattle.clauses.proofs.Course.{Course, X, S, history, fine, turn, guard, ever, born, since-start}
 use Rattle.clauses.proofs.Came.{Sets}
 use Rattle.clauses.proofs.Sentences.{happened, because, never}
 use Rattle.orders.specs.Demand.{Brings, at-h3, at-h4, at-h8, before, place, info, Steps, named, During, Effect, Holds, LinkedRead, Verdict}
@@ -22,7 +26,7 @@ use Rattle.orders.specs.Demand.{Change as Made}
 use Rattle.orders.proofs.Calls.{obeyed, held}
 use Rattle.orders.proofs.Run.{Run, course, place-known, works-live}
 use Rattle.orders.proofs.Changes.{another, terms, makes, change-of, alone, during}
-use Rattle.orders.proofs.Effects.{is-in, inside, step-passes, passed-steps, writes, effect}
+use Rattle.orders.proofs.Effects.{is-in, inside, step-passes, passed-steps, act-is, writes, effect}
 use Rattle.orders.proofs.Untouched.{read-of}
 
 -- what a place tells of the verdict that it brings: the change has happened, or is lost
@@ -76,6 +80,29 @@ module _ (m : Machine) (calls : ℕ → Call) (R : Run m calls) where
   said-of c k v B = tells (S C k) (H k) (c .number) (fine C k .CHANGES (c .number) (verdict-live c k v B)) _ _ _ v (B .brings)
       (known-at k (B .by) (B .steps))
 
+  -- who brings a verdict finds the change ended, or ends it
+  pub ended : (c : Ch) (j : ℕ) (v : Bool) → Verdict next m calls c j v → (k : ℕ) → j < k → During next m calls c k → Live (X C k) (c .number)
+      → S C k .state (c .number) ≢ InProgress
+  unfolding actAt apply
+  ended c j v B k l D live = go (place next m calls j (B .by)) v refl (B .brings) (known-at j (B .by) (B .steps))
+    where
+      u : ℕ
+      u = c .number
+
+      on : (i : ℕ) → j ≤ i → i ≤ k → S C i .state u ≢ InProgress → S C k .state u ≢ InProgress
+      on i a b h = ever C u (λ S G. S .state u ≢ InProgress) (λ S G t l b g o O p. stay-ended S G t l b g u o p) i k b
+          (λ x p q. alone m calls R c k D x (omega (arith, B .during .later)) q) live h
+
+      after : (q : Place) → place next m calls j (B .by) ≡ q → S C (suc j) ≡ apply (actAt (S C j) q) (S C j)
+      after q e = turn C j .shared ∙ ap (λ b. apply b (S C j)) (act-is m calls R j (B .by) (B .steps) ∙ ap (λ q. actAt (S C j) q) e)
+
+      go : (q : Place) (y : Bool) → place next m calls j (B .by) ≡ q → Brings u (B .after) (S C j .frozen u) q y → At (S C j) (H j) (taskAt (M j) (B .by) .cells) q
+          → S C k .state u ≢ InProgress
+      go q y e (at-h3 f) h = on j (le-refl _) (omega arith) (λ z. ⊎-elim (λ (y : S C j .state u ≡ Committed). CI y z)
+          (λ y. lost-frozen (S C j) (H j) u (fine C j .CHANGES u (verdict-live c j v B)) y f) (h .1))
+      go q y e at-h4 h = on (suc j) (omega arith) l (λ z. AI (ap (λ (s : Shared). s .state u) (after _ e) ∙ upd-hit (S C j .state) u _ refl) z)
+      go q y e at-h8 h = on (suc j) (omega arith) l (λ z. CI (ap (λ (s : Shared). s .state u) (after _ e) ∙ upd-hit (S C j .state) u _ refl) z)
+
   -- "yes only after the effect"
   pub yes-after : (c : Ch) (k : ℕ) → Verdict next m calls c k true → (j : ℕ) × (j < k) × Effect next m calls c j
   yes-after c k B =
@@ -107,7 +134,7 @@ module _ (m : Machine) (calls : ℕ → Call) (R : Run m calls) where
       )
 
   -- an H1 that sets an info is a change taking hold
-  holds : (k x r : ℕ) → r < m .n → Sets C k x r → (d : Ch) × (d .number ≡ x) × Holds next m calls d k r
+  pub holds : (k x r : ℕ) → r < m .n → Sets C k x r → (d : Ch) × (d .number ≡ x) × Holds next m calls d k r
   holds k x r rl B =
       let (d, q, D) = change-at k x (B .live) in
       let (P, at) = held (M k) (calls k) x (B .i) (B .act) in
@@ -126,6 +153,8 @@ module _ (m : Machine) (calls : ℕ → Call) (R : Run m calls) where
           names = (subst (λ (t : Terms). B .i < t .n) T (B .inside), ap (λ (t : Terms). t .rec (B .i)) (sym T) ∙ B .rec);
           takes = ap (λ (x : Record). x .info) (sym (is-in m calls R (suc k) r rl)) ∙ B .to ∙ sym q;
           alters = λ e. B .from (ap (λ (x : Record). x .info) (is-in m calls R k r rl) ∙ e ∙ q);
+          unfinished = λ j v l W. ended d j v W k l D (subst (λ x. Live (X C k) x) (sym q) (B .live))
+              (ap (S C k .state) q ∙ hold-going (S C k) (H k) (C .who k) x (B .i) (guard C k (hold x (B .i)) (B .act)));
         },
       )
 

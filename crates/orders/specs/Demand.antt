@@ -10,7 +10,7 @@ use mathlib.Core.List.{List}
 use lib.ListN.{getD}
 use Rattle.rules.specs.Words.{Cell, After, Own, AtL8, AtL11, Place, Idle, L9, H1, H2, H3, H4, H5, H6, H7, H8, Machine, Out}
 use Rattle.rules.specs.Words.{Ask, Call, AskLlx, AskScx, AskStep, Refusal, Answer, Accepted, Snapshot, Finalized, Fail, Yes, No, Refused}
-use Rattle.table.specs.Table.{cellAt, recordAt, changeAt, taskAt, linkAt}
+use Rattle.table.specs.Table.{cellAt, recordAt, changeAt, taskAt}
 
 -- "H3 .. yes gives verdict yes", "H4 .. verdict no", "H8 .. verdict yes": the verdict on u that a step from a place brings
 pub data Brings (u : ℕ) (after : After) (frozen : Bool) : Place → Bool → Type 0 where
@@ -128,35 +128,20 @@ module _ (next : Machine → Call → Out) (m : Machine) (calls : ℕ → Call) 
     pub at-h7 : place k by ≡ H7 (c .number) after
     pub alters : cell (suc k) (spot c) (c .field) ≢ cell k (spot c) (c .field)
 
-  -- TAKING HOLD: call k is the H1 of a task that works on c, and by it the info of r becomes c's number, which it was not
-  pub record Holds (c : Change) (k r : ℕ) : Type 0 where
-    pub during : During c k
-    pub by : ℕ
-    pub after : After
-    pub i : ℕ
-    pub steps : Steps k by
-    pub at-h1 : place k by ≡ H1 (c .number) i after
-    pub names : (i < c .n) × (named c i ≡ r)
-    pub takes : info (suc k) r ≡ c .number
-    pub alters : info k r ≢ c .number
-
-  -- call k ends an LLX of r by t with a snapshot
+  -- call k ends an LLX of r by t with a snapshot, and tells what r holds
   pub record Snap (k t r : ℕ) : Type 0 where
     pub start : ℕ
     pub starts : Starts start t (AskLlx r)
     pub going : Going start t k
     pub steps : Steps k t
     pub answer : said k ≡ Snapshot
+    pub tells : (f : ℕ) → f < 4 → cellAt (next (before k) (calls k) .cells) f ≡ cell k r f
 
-  -- THE LINKED READ of r for c ended at e: the task's last snapshot of r before the start. Its four cells are in the link, which stands
-  -- until then
+  -- THE LINKED READ of r for c ended at e: the task's last snapshot of r before the start
   pub record LinkedRead (c : Change) (r e : ℕ) : Type 0 where
     pub before-start : e < c .start
     pub ends : Snap e (c .task) r
     pub last : (j : ℕ) → e < j → j < c .start → Snap j (c .task) r → ⊥
-    pub saw : linkAt (before (suc e)) (c .task) r .cells ≡ next (before e) (calls e) .cells
-    pub stands : (j : ℕ) → e < j → j ≤ c .start
-        → (linkAt (before j) (c .task) r .there ≡ true) × (linkAt (before j) (c .task) r ≡ linkAt (before (suc e)) (c .task) r)
 
   -- A VERDICT on c: call k ends some task's work on c, its owner's or a helper's, with yes or no
   pub record Verdict (c : Change) (k : ℕ) (yes : Bool) : Type 0 where
@@ -167,22 +152,37 @@ module _ (next : Machine → Call → Out) (m : Machine) (calls : ℕ → Call) 
     pub brings : Brings (c .number) after (changeAt (before k) (c .number) .frozen) (place k by) yes
     pub ends : (place (suc k) by ≡ leads after yes) × (said k ≡ answers after yes)
 
+  -- TAKING HOLD: call k is the H1 of a task that works on c, and by it the info of r becomes c's number, which it was not; nobody has
+  -- finished work on c
+  pub record Holds (c : Change) (k r : ℕ) : Type 0 where
+    pub during : During c k
+    pub by : ℕ
+    pub after : After
+    pub i : ℕ
+    pub steps : Steps k by
+    pub at-h1 : place k by ≡ H1 (c .number) i after
+    pub names : (i < c .n) × (named c i ≡ r)
+    pub takes : info (suc k) r ≡ c .number
+    pub alters : info k r ≢ c .number
+    pub unfinished : (j : ℕ) (yes : Bool) → j < k → Verdict c j yes → ⊥
+
   -- no cell of r alters in call k
   abbrev pub Still : ℕ → ℕ → Type 0
   Still k r = (f : ℕ) → cell (suc k) r f ≡ cell k r f
 
   pub record Demand3 : Type 0 where
+    -- every call is refused, starts an operation of an idle task, or is a STEP of a busy one
+    pub is-a-turn : (k : ℕ) → ((why : Refusal) × (said k ≡ Refused why))
+        ⊎ (((calls k .ask ≢ AskStep) × (said k ≡ Accepted) × (place k (calls k .task) ≡ Idle))
+        ⊎ ((calls k .ask ≡ AskStep) × (place k (calls k .task) ≢ Idle)))
     -- every SCX is refused or is a change
     pub is-a-change : (k n closing written field new : ℕ) → calls k .ask ≡ AskScx n closing written field new
         → ((why : Refusal) × (said k ≡ Refused why)) ⊎ ((c : Change) × (c .start ≡ k))
     -- every snapshot ends an LLX
     pub is-a-read : (k : ℕ) → said k ≡ Snapshot → (r : ℕ) × Snap k (calls k .task) r
-    -- "A change that takes effect alters its one field exactly once": one effect at most, from the cell in its link to the new value with
-    -- the change's number
+    -- "A change that takes effect alters its one field exactly once": one effect at most, to the new value with the change's number
     pub once : (c : Change) (j k : ℕ) → Effect c j → Effect c k → j ≡ k
-    pub alters-its-field : (c : Change) (k : ℕ) → Effect c k
-        → (cell k (spot c) (c .field) ≡ cellAt (linkAt (before (c .start)) (c .task) (spot c) .cells) (c .field))
-        × (cell (suc k) (spot c) (c .field) ≡ record { value = c .new; stamp = c .number })
+    pub alters-its-field : (c : Change) (k : ℕ) → Effect c k → cell (suc k) (spot c) (c .field) ≡ record { value = c .new; stamp = c .number }
     -- "From the end of each linked read to that moment, no field of a record it named altered and no other change naming that record
     -- took effect."
     pub untouched : (c : Change) (k : ℕ) → Effect c k → (i : ℕ) → i < c .n
