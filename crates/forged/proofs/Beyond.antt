@@ -12,7 +12,7 @@ use Rattle.forged.proofs.Tests.{isRefused}
 module _ (m : Machine) (calls : ℕ → Call) where
   no-steps : (k t : ℕ) → Steps refuses-all m calls k t → ⊥
   unfolding refuses-all refused
-  no-steps k t s = s .accepted OutOfShape refl
+  no-steps k t s = s .not-refused OutOfShape refl
 
   no-change : Change refuses-all m calls → ⊥
   unfolding refuses-all refused

@@ -1,5 +1,5 @@
 -- The events of a run that is written down, each from tests that the prover computes.
-use Prim.Native.Nat.{ℕ, suc, _-_}
+use Prim.Native.Nat.{ℕ, suc, _-_, _<_, _≤_}
 use native.Mathlib.Omega.{arith}
 use mathlib.Core.Path.{_≡_, refl, sym, ap, subst, _∙_}
 use mathlib.Core.Logic.{⊎-elim}
@@ -8,7 +8,7 @@ use mathlib.Core.List.{List}
 use lib.Dec.{eqb, ltb}
 use borrow.Author.Tests.{ltb-true, eqb-false, eq-eqb}
 use Rattle.rules.specs.Words.{After, Own, Place, H1, H7, Machine, Ask, Call, Accepted, Snapshot, Out}
-use Rattle.table.specs.Table.{pick, cellAt, recordAt, changeAt, taskAt, sameCell}
+use Rattle.table.specs.Table.{pick, cellAt, recordAt, changeAt, taskAt, linkAt, sameCell}
 use Rattle.rules.specs.Claim.{both, allBelow}
 use Rattle.rules.proofs.Exact.{both-is, both-on, all-is}
 use Rattle.rules.specs.Access.{changeOf}
@@ -20,7 +20,7 @@ use Rattle.orders.proofs.Busy.{idle-or}
 use Rattle.clauses.proofs.Updates.{bool?}
 use Rattle.forged.specs.Places.{isH, isScx, isLlx}
 use Rattle.forged.proofs.Through.{scan-on, throughout, throughout-is, silent, silent-is}
-use Rattle.forged.proofs.Tests.{isRefused, isSnapshot, not-refused, not-same, sameList, same-list}
+use Rattle.forged.proofs.Tests.{isRefused, isSnapshot, not-refused, not-same, sameList, same-list, sameLink, same-link}
 
 -- THE TESTS, of a call and the table before it
 module _ (next : Machine → Call → Out) (m : Machine) (calls : ℕ → Call) where
@@ -57,13 +57,17 @@ module _ (next : Machine → Call → Out) (m : Machine) (calls : ℕ → Call) 
       both (both (eqb (calls k .task) t) (isSnapshot (next x (calls k) .answer)))
       (not (allBelow k (λ s. not (reads t r k s))))
 
+  -- t's link to r is as in the table y
+  abbrev pub stays : ℕ → ℕ → Machine → ℕ → Machine → Bool
+  stays t r y k x = sameLink (linkAt x t r) (linkAt y t r)
+
   -- call k is a STEP of t that is not refused
   abbrev pub going : ℕ → ℕ → Type 0
   going k t = (calls k ≡ stepping t) × (isRefused (said next m calls k) ≡ false)
 
   pub steps : (k t : ℕ) → going k t → Steps next m calls k t
   steps k t g =
-      record { step = ap (λ x. x .ask) (g .0); by = ap (λ x. x .task) (g .0); accepted = not-refused (said next m calls k) (g .1) }
+      record { step = ap (λ x. x .ask) (g .0); by = ap (λ x. x .task) (g .0); not-refused = not-refused (said next m calls k) (g .1) }
 
   pub starts : {s t : ℕ} {ask : Ask} {list : List ℕ} → calls s ≡ record { task = t; ask = ask; list = list } → said next m calls s ≡ Accepted
       → Starts next m calls s t ask
@@ -184,9 +188,14 @@ module _ {next : Machine → Call → Out} {m : Machine} {calls : ℕ → Call} 
       → busy next m calls (c .task) s e ≡ true → ltb e (c .start) ≡ true → going next m calls e (c .task)
       → said next m calls e ≡ Snapshot
       → silent next m calls (snaps next m calls (c .task) r) e (c .start) ≡ true
+      → throughout next m calls (stays next m calls (c .task) r (before next m calls (suc e))) e (suc (c .start)) ≡ true
       → sameList (next (before next m calls e) (calls e) .cells) (recordAt (before next m calls e) r .cells) ≡ true
       → LinkedRead next m calls c r e
-  linked c r s e asks acc f b l g x only tells =
+  linked c r s e asks acc f b l g x only stands tells =
+      let y = before next m calls (suc e) in
+      let link : (j : ℕ) → e < j → j ≤ c .start → (linkAt (before next m calls j) (c .task) r .there ≡ true) × (linkAt (before next m calls j) (c .task) r ≡ linkAt y (c .task) r) =
+            λ j l1 l2. same-link (linkAt (before next m calls j) (c .task) r) (linkAt y (c .task) r)
+            (throughout-is next m calls (stays next m calls (c .task) r y) e (suc (c .start)) stands j l1 (omega arith)) in
       record {
         before-start = ltb-true e (c .start) l;
         ends = record {
@@ -197,5 +206,7 @@ module _ {next : Machine → Call → Out} {m : Machine} {calls : ℕ → Call} 
           answer = x;
           tells = λ f l. ap (λ cs. cellAt cs f) (same-list (next (before next m calls e) (calls e) .cells) (recordAt (before next m calls e) r .cells) tells);
         };
+        there = link (suc e) (omega arith) (ltb-true e (c .start) l) .0;
+        stands = λ j l1 l2. link j l1 l2 .1;
         last = λ j l1 l2 h. silent-is next m calls (snaps next m calls (c .task) r) e (c .start) only j l1 l2 (snaps-is (c .task) r j h);
       }

@@ -41,15 +41,15 @@ second = begun next table calls 48 B 1 (just 0) 0 0 0 7 2 refl refl refl
 -- the linked reads
 pub first-read-0 : LinkedRead next table calls first 0 9
 unfolding computed table calls
-first-read-0 = linked first 0 0 9 refl refl refl refl refl (refl, refl) refl refl refl
+first-read-0 = linked first 0 0 9 refl refl refl refl refl (refl, refl) refl refl refl refl
 
 pub first-read-1 : LinkedRead next table calls first 1 19
 unfolding computed table calls
-first-read-1 = linked first 1 10 19 refl refl refl refl refl (refl, refl) refl refl refl
+first-read-1 = linked first 1 10 19 refl refl refl refl refl (refl, refl) refl refl refl refl
 
 pub second-read-0 : LinkedRead next table calls second 0 29
 unfolding computed table calls
-second-read-0 = linked second 0 20 29 refl refl refl refl refl (refl, refl) refl refl refl
+second-read-0 = linked second 0 20 29 refl refl refl refl refl (refl, refl) refl refl refl refl
 
 -- B takes hold of 0 for A's change, and alters its field: A is called neither then nor for long after
 pub held : Holds next table calls first 41 0

@@ -59,13 +59,13 @@ module _ (m : Machine) (calls : ℕ → Call) (R : Run m calls) where
 
   -- a step that is not refused has passed, and the other way round
   pub step-passes : (k t : ℕ) → Steps next m calls k t → Passes (M k) (calls k) AskStep
-  step-passes k t P = record { passed = not-refused (M k) (calls k) (P .accepted); asks = P .step }
+  step-passes k t P = record { passed = not-refused (M k) (calls k) (P .not-refused); asks = P .step }
 
   pub passed-steps : (k : ℕ) → Passes (M k) (calls k) AskStep → Steps next m calls k (calls k .task)
   passed-steps k P = record {
     step = P .asks;
     by = refl;
-    accepted = λ why e. true≢false (sym (ap isRefusal e) ∙ passed-answers (M k) (calls k) (P .passed));
+    not-refused = λ why e. true≢false (sym (ap isRefusal e) ∙ passed-answers (M k) (calls k) (P .passed));
   }
 
   pub act-is : (k t : ℕ) → Steps next m calls k t → C .act k ≡ actAt (shared (M k)) (place next m calls k t)

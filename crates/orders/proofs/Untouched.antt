@@ -64,6 +64,8 @@ module _ (m : Machine) (calls : ℕ → Call) (R : Run m calls) where
           before-start = A .before;
           ends = snap-of m calls R e (c .task) r (A .ended .by) (A .ended .ends) (A .ended .of);
           last = λ j a b B. A .last j a b (ends-of j (c .task) r B);
+          there = ap (λ (k : Link). k .there) (sym (link-is c (suc e) i h)) ∙ A .there;
+          stands = λ j a b. sym (link-is c j i h) ∙ A .stands j a b ∙ link-is c (suc e) i h;
         },
         ap (λ t. history C (c .start) .read t r) (by-task m calls R c) ∙ A .time,
       )

@@ -10,7 +10,7 @@ use mathlib.Core.List.{List}
 use lib.ListN.{getD}
 use Rattle.rules.specs.Words.{Cell, After, Own, AtL8, AtL11, Place, Idle, L9, H1, H2, H3, H4, H5, H6, H7, H8, Machine, Out}
 use Rattle.rules.specs.Words.{Ask, Call, AskLlx, AskScx, AskStep, Refusal, Answer, Accepted, Snapshot, Finalized, Fail, Yes, No, Refused}
-use Rattle.table.specs.Table.{cellAt, recordAt, changeAt, taskAt}
+use Rattle.table.specs.Table.{cellAt, recordAt, changeAt, taskAt, linkAt}
 
 -- "H3 .. yes gives verdict yes", "H4 .. verdict no", "H8 .. verdict yes": the verdict on u that a step from a place brings
 pub data Brings (u : ℕ) (after : After) (frozen : Bool) : Place → Bool → Type 0 where
@@ -72,9 +72,9 @@ module _ (next : Machine → Call → Out) (m : Machine) (calls : ℕ → Call) 
   pub record Steps (k t : ℕ) : Type 0 where
     pub step : calls k .ask ≡ AskStep
     pub by : calls k .task ≡ t
-    pub accepted : (why : Refusal) → said k ≢ Refused why
+    pub not-refused : (why : Refusal) → said k ≢ Refused why
 
-  -- call s is an accepted start by task t of what is asked
+  -- call s asks this for task t and is accepted; unless it is a STEP, an operation starts
   pub record Starts (s t : ℕ) (ask : Ask) : Type 0 where
     pub list : List ℕ
     pub asks : calls s ≡ record { task = t; ask = ask; list = list }
@@ -137,11 +137,13 @@ module _ (next : Machine → Call → Out) (m : Machine) (calls : ℕ → Call) 
     pub answer : said k ≡ Snapshot
     pub tells : (f : ℕ) → f < 4 → cellAt (next (before k) (calls k) .cells) f ≡ cell k r f
 
-  -- THE LINKED READ of r for c ended at e: the task's last snapshot of r before the start
+  -- THE LINKED READ of r for c ended at e: the task's last snapshot of r before the start, whose link stands until then
   pub record LinkedRead (c : Change) (r e : ℕ) : Type 0 where
     pub before-start : e < c .start
     pub ends : Snap e (c .task) r
     pub last : (j : ℕ) → e < j → j < c .start → Snap j (c .task) r → ⊥
+    pub there : linkAt (before (suc e)) (c .task) r .there ≡ true
+    pub stands : (j : ℕ) → e < j → j ≤ c .start → linkAt (before j) (c .task) r ≡ linkAt (before (suc e)) (c .task) r
 
   -- A VERDICT on c: call k ends some task's work on c, its owner's or a helper's, with yes or no
   pub record Verdict (c : Change) (k : ℕ) (yes : Bool) : Type 0 where
