@@ -124,7 +124,7 @@ module _ (m : Machine) (calls : ℕ → Call) (R : Run m calls) (s t r K : ℕ) 
           ap (λ (Z : Shared). Z .mark r) (turn C k .shared) ∙ stay-open (S C k) (history C k) (C .who k) (C .reads k) (C .act k) (turn C k .guard) r
               (subst (λ a. S C k .state a ≢ InProgress) (sym (f .1)) (f .2)) (f .0),
           left-in m calls R t tl k b (λ x. x .info) r rl h (λ o. ⊎-elim (λ e. e)
-              (λ (d : (d : Changed next m calls) × Holds next m calls d k r). absurd (U .untouched (d .0) k (g .later) c o (d .1))) (by-a-hold m calls R k r rl)) ∙ f .1,
+              (λ (d : (d : Changed next m calls) × Holds next m calls d k r). absurd (U .since-start (d .0) k (g .later) c o (d .1))) (by-a-hold m calls R k r rl)) ∙ f .1,
           subst (λ (Z : Shared). Z .state a ≢ InProgress) (sym (turn C k .shared))
               (stay-ended (S C k) (history C k) (C .who k) (C .reads k) (C .act k) (turn C k .guard) a
               (not-taken C k a (λ z. (z, inl (r, f .1)))) (f .2)),

@@ -168,6 +168,6 @@ module _ (m : Machine) (calls : ℕ → Call) (R : Run m calls) (c : Asked next 
       one-step (S C k) T u s ch linked a (e ∙ ap (S C k .terms) b ∙ a) (made .apart) (at k) n p w)
       (λ k n g l p h. same-infos T u (S C k) (S C (suc k)) (λ i b. left-in m calls R t tl k (g .busy k (g .later) (le-refl k)) (λ x. x .info)
       (named next m calls c i) (inside m calls R c i b) h (λ o. ⊎-elim (λ e. e)
-      (λ (d : (d : Asked next m calls) × Holds next m calls d k (named next m calls c i)). absurd (U .untouched (d .0) i k b (g .later) l o (d .1)))
+      (λ (d : (d : Asked next m calls) × Holds next m calls d k (named next m calls c i)). absurd (U .since-start (d .0) i k b (g .later) l o (d .1)))
       (by-a-hold m calls R k (named next m calls c i) (inside m calls R c i b)))) (at k) n p)
       (busy T u))

@@ -14,7 +14,7 @@ use Rattle.orders.specs.Demand.{said, place, Steps, Starts, Going, Change, name
 
 -- how many records R has: the bits of places 0 to 3
 abbrev pub size : ℕ → ℕ
-size r = r % 2 + r / 2 % 2 + r / 4 % 2 + r / 8 % 2
+size closing = closing % 2 + closing / 2 % 2 + closing / 4 % 2 + closing / 8 % 2
 
 -- the ask is a STEP
 abbrev pub isStep : Ask → Bool
@@ -39,7 +39,7 @@ module _ (next : Machine → Call → Out) (m : Machine) (calls : ℕ → Call) 
   pub record UndisturbedScx (c : Change next m calls) (k : ℕ) : Type 0 where
     pub since-read : (d : Change next m calls) (i e j : ℕ) → i < c .n → LinkedRead next m calls c (named next m calls c i) e → e < j → j < c .start
         → Holds next m calls d j (named next m calls c i) → ⊥
-    pub untouched : (d : Change next m calls) (i j : ℕ) → i < c .n → c .start < j → j < k → calls j .task ≢ c .task
+    pub since-start : (d : Change next m calls) (i j : ℕ) → i < c .n → c .start < j → j < k → calls j .task ≢ c .task
         → Holds next m calls d j (named next m calls c i) → ⊥
 
   -- an undisturbed LLX of r: before its start no change that closes r has taken effect, and each that took hold of r has its verdict;
@@ -48,7 +48,7 @@ module _ (next : Machine → Call → Out) (m : Machine) (calls : ℕ → Call) 
     pub not-closed : (c : Change next m calls) (j : ℕ) → j < s → Effect next m calls c j → Closes next m calls c r → ⊥
     pub not-held : (c : Change next m calls) (j : ℕ) → j < s → Holds next m calls c j r
         → (i : ℕ) × (yes : Bool) × (i < s) × Verdict next m calls c i yes
-    pub untouched : (c : Change next m calls) (j : ℕ) → s < j → j < k → calls j .task ≢ t → Holds next m calls c j r → ⊥
+    pub since-start : (c : Change next m calls) (j : ℕ) → s < j → j < k → calls j .task ≢ t → Holds next m calls c j r → ⊥
 
   pub record Bounds : Type 0 where
     -- "an operation answers on its last access": a start leaves its task busy, and it is so until a STEP of its own answers; no STEP
@@ -61,8 +61,8 @@ module _ (next : Machine → Call → Out) (m : Machine) (calls : ℕ → Call) 
     pub llx : (s t r k : ℕ) → Starts next m calls s t (AskLlx r) → Going next m calls s t k → own s t k < 39
     pub vlx : (s t n k : ℕ) → Starts next m calls s t (AskVlx n) → Going next m calls s t k → own s t k < n
     pub read : (s t r f k : ℕ) → Starts next m calls s t (AskRead r f) → Going next m calls s t k → own s t k < 1
-    pub scx : (s t n r written field new k : ℕ) → Starts next m calls s t (AskScx n r written field new) → Going next m calls s t k
-        → own s t k < 2 * n + size r + 3
+    pub scx : (s t n closing written field new k : ℕ) → Starts next m calls s t (AskScx n closing written field new) → Going next m calls s t k
+        → own s t k < 2 * n + size closing + 3
     -- "An undisturbed SCX takes n + f + 3", and answers yes
     pub undisturbed-scx : (c : Change next m calls) (k : ℕ) → c .start < k → UndisturbedScx c k
         → Going next m calls (c .start) (c .task) k ↔ own (c .start) (c .task) k < c .n + size (c .closing) + 3

@@ -194,8 +194,8 @@ module _ {next : Machine → Call → Out} {m : Machine} {calls : ℕ → Call} 
   linked c r s e asks acc f b l g x only stands tells =
       let y = before next m calls (suc e) in
       let link : (j : ℕ) → e < j → j ≤ c .start → (linkAt (before next m calls j) (c .task) r .there ≡ true) × (linkAt (before next m calls j) (c .task) r ≡ linkAt y (c .task) r) =
-            λ j l1 l2. same-link (linkAt (before next m calls j) (c .task) r) (linkAt y (c .task) r)
-            (throughout-is next m calls (stays next m calls (c .task) r y) e (suc (c .start)) stands j l1 (omega arith)) in
+      λ j l1 l2. same-link (linkAt (before next m calls j) (c .task) r) (linkAt y (c .task) r)
+      (throughout-is next m calls (stays next m calls (c .task) r y) e (suc (c .start)) stands j l1 (omega arith)) in
       record {
         before-start = ltb-true e (c .start) l;
         ends = record {

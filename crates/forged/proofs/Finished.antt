@@ -1,119 +1,23 @@
--- Two machines whose changes do not end: H8 that sets nothing, H8 that lets go of its record.
-use Prim.Native.Nat.{ℕ, zero, suc, _/_, _%_, _^_, _<_}
+-- no-because, H8 lets go of its record: a change on which work was finished takes hold again.
+use Prim.Native.Nat.{ℕ, suc, _<_}
 use native.Mathlib.Omega.{arith}
 use mathlib.Core.Path.{_≡_, refl, sym, ap, subst, _∙_}
 use mathlib.Core.Logic.{_≢_, ⊎-elim}
-use mathlib.Core.Bool.{Bool, true, false, not}
-use mathlib.Core.List.{[], _∷_, _++_}
-use lib.Dec.{eqb}
-use borrow.Author.Tests.{ltb-true, eqb-true, ne-eqb}
-use Rattle.rules.specs.Words.{Own, H1, H8, Place, Machine, Call, Out, Ask, AskScx}
+use mathlib.Core.Bool.{true, false, not}
+use mathlib.Core.List.{_∷_, _++_}
+use borrow.Author.Tests.{ltb-true, ne-eqb}
+use Rattle.rules.specs.Words.{Own, H1, Call, AskScx}
 use Rattle.table.specs.Table.{cellAt, recordAt, changeAt}
 use Rattle.rules.specs.Claim.{allBelow}
 use Rattle.rules.specs.Next.{llx}
-use Rattle.clauses.proofs.Updates.{leb-case, same?}
-use Rattle.orders.specs.Demand.{at-h4, at-h8, Brings, before, place, said, info, Change, named, Closes, During, Effect, Holds, Snap, LinkedRead, Verdict, Demand3}
-use Rattle.bounds.specs.Bounds.{own, UndisturbedLlx, Bounds}
-use Rattle.forged.specs.Broken.{never-commits, lets-go}
+use Rattle.clauses.proofs.Updates.{leb-case}
+use Rattle.orders.specs.Demand.{at-h4, at-h8, Brings, before, place, info, Change, named, Holds, Snap, LinkedRead, Verdict, Demand3}
+use Rattle.forged.specs.Broken.{lets-go}
 use Rattle.forged.proofs.Tests.{sameList, same-list}
-use Rattle.forged.proofs.Through.{silent, silent-is, throughout, throughout-is}
-use Rattle.forged.proofs.Events.{busy, begun, starts, goes-on, steps, verdict}
+use Rattle.forged.proofs.Through.{silent, silent-is}
+use Rattle.forged.proofs.Events.{begun, starts, goes-on, steps, verdict}
 use Rattle.forged.proofs.Without.{moves, only, only-start}
 use Rattle.forged.proofs.Script.{computed, table, script, A, B, goes, reads, writes, just}
-
-no-bit : (i : ℕ) → i < 1 → 0 / 2 ^ i % 2 ≡ 1 → ⊥
-no-bit zero l h = let z : _≡_ {A = ℕ} 0 1 = h in omega arith
-no-bit (suc i) l h = omega arith
-
--- UNDISTURBED-LLX, no commit: A's change of 0 has answered yes, all tasks are idle; B's LLX of 0 is in progress after 9 steps
-unfoldable pub left-open : ℕ → Call
-left-open = script (reads A 0 ++ (writes A 0 7 ∷ goes A 4) ++ (llx B 0 ∷ goes B 12))
-
-abbrev Ch : Type 0
-Ch = Change never-commits table left-open
-
-one : allBelow 25 (only never-commits table left-open 10) ≡ true
-unfolding computed table left-open
-one = refl
-
-yes-at-14 : (place never-commits table left-open 14 A ≡ H8 1 Own)
-unfolding computed table left-open never-commits
-yes-at-14 = refl
-
-abbrev the : Ch
-unfolding computed table left-open never-commits
-the = begun never-commits table left-open 10 A 1 (just 0) 0 0 0 7 1 refl refl refl
-
-verdict-of-the : Verdict never-commits table left-open the 14 true
-unfolding computed table left-open never-commits
-verdict-of-the = verdict the 14 A Own true refl (refl, refl) at-h8 (refl, refl)
-
--- any change of the run is that one
-module _ (c : Ch) (l : c .start < 25) where
-  at-10 : c .start ≡ 10
-  at-10 = only-start 10 25 one c l
-
-  asked : left-open 10 ≡ record { task = c .task; ask = AskScx (c .n) (c .closing) (c .written) (c .field) (c .new); list = c .list }
-  asked = ap left-open (sym at-10) ∙ c .asks
-
-  same-ask : AskScx 1 0 0 0 7 ≡ AskScx (c .n) (c .closing) (c .written) (c .field) (c .new)
-  unfolding left-open
-  same-ask = ap (λ (e : Call). e .ask) asked
-
-  is-one : c .n ≡ 1
-  is-one = let q = same-ask in cc
-
-  closes-none : c .closing ≡ 0
-  closes-none = let q = same-ask in cc
-
-  same-task : c .task ≡ A
-  unfolding left-open
-  same-task = sym (ap (λ (e : Call). e .task) asked)
-
-  same-number : c .number ≡ 1
-  unfolding the
-  same-number =
-      let q : H1 1 0 Own ≡ H1 (c .number) 0 Own = sym (the .takes) ∙ subst (λ s. place never-commits table left-open (suc s) A ≡ H1 (c .number) 0 Own) at-10
-      (subst (λ t. place never-commits table left-open (suc (c .start)) t ≡ H1 (c .number) 0 Own) same-task (c .takes)) in cc
-
-  its-verdict : Verdict never-commits table left-open c 14 true
-  unfolding the
-  its-verdict = let v = verdict-of-the in record {
-    during = record {
-      later = omega (arith, at-10);
-      alone = λ d a b e. let z = only-start 10 25 one d (omega arith) in omega (arith, at-10);
-    };
-    by = v .by;
-    after = v .after;
-    steps = v .steps;
-    brings = subst (λ u. Brings u (v .after) (changeAt (before never-commits table left-open 14) u .frozen) (place never-commits table left-open 14 (v .by)) true)
-        (sym same-number) (v .brings);
-    ends = v .ends;
-  }
-
-  closes-not : Closes never-commits table left-open c 0 → ⊥
-  closes-not (i, h, q, e) = no-bit i (subst (λ n. i < n) is-one h) (subst (λ r. r / 2 ^ i % 2 ≡ 1) closes-none q)
-
-all-B : throughout never-commits table left-open (λ j x. eqb (left-open j .task) B) 15 25 ≡ true
-unfolding computed table left-open
-all-B = refl
-
-undisturbed : UndisturbedLlx never-commits table left-open 15 B 0 25
-undisturbed = record {
-  not-closed = λ c j l E. closes-not c (omega (arith, E .during .later));
-  not-held = λ c j l H. (14, true, ltb-true 14 15 refl, its-verdict c (omega (arith, H .during .later)));
-  untouched = λ c j a b n H. n (eqb-true (left-open j .task) B
-      (throughout-is never-commits table left-open (λ j x. eqb (left-open j .task) B) 15 25 all-B j a b));
-}
-
-pub never-commits-fails : Bounds never-commits table left-open → ⊥
-unfolding computed table left-open never-commits own
-never-commits-fails D =
-    let g = goes-on never-commits table left-open B 15 25 refl refl in
-    let l : own never-commits table left-open 15 B 25 < 9 =
-    D .undisturbed-llx 15 B 0 25 (starts never-commits table left-open refl refl) (ltb-true 15 25 refl) undisturbed .0 g in
-    let z : own never-commits table left-open 15 B 25 ≡ 9 = refl in
-    omega arith
 
 -- NO-BECAUSE, H8 lets go: B comes to help A's change and stops; A's change answers yes; A reads 0 again; B's H1 takes hold for the finished
 -- change; A's next change answers no

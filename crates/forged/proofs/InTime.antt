@@ -79,7 +79,7 @@ undisturbed-llx-speaks =
     record {
       not-closed = λ c j l. absurd (omega arith);
       not-held = λ c j l. absurd (omega arith);
-      untouched = λ c j l1 l2 n H. nobody c j 0 refl (info-kept j (throughout-is next table between kept 0 20 before-scx j l1 l2)) H;
+      since-start = λ c j l1 l2 n H. nobody c j 0 refl (info-kept j (throughout-is next table between kept 0 20 before-scx j l1 l2)) H;
     }
 
 abbrev pub change : Change next table between
@@ -96,7 +96,7 @@ undisturbed-scx-speaks =
     record {
       since-read = λ d i e j l R l1 l2 H. nobody d j (named next table between change i) (only-0 i l)
           (info-kept j (throughout-is next table between kept 0 20 before-scx j (omega arith) l2)) H;
-      untouched = λ d i j l l1 l2 n H. nobody d j (named next table between change i) (only-0 i l)
+      since-start = λ d i j l l1 l2 n H. nobody d j (named next table between change i) (only-0 i l)
           (info-kept j (not-own (eqb (between j .task) A) (kept j (before next table between j)) (ne-eqb (between j .task) A n)
           (throughout-is next table between (λ j x. pick (eqb (between j .task) A) true (kept j x)) 20 30 during-scx j l1 l2))) H;
     }

@@ -12,4 +12,5 @@ pub mod Others
 pub mod Beyond
 pub mod Cached
 pub mod InTime
+pub mod Afterwards
 pub mod Finished

@@ -9,7 +9,7 @@ use mathlib.Core.List.{[], _∷_, _++_}
 use mathlib.Core.Path.{_≡_, refl}
 use lib.Dec.{eqb}
 use borrow.Author.Tests.{ltb-true}
-use Rattle.rules.specs.Words.{Call, AskScx, Own, AtL8, H1, H7, Finalized, No}
+use Rattle.rules.specs.Words.{Call, AskScx, AskStep, Idle, Refused, NoSuchTask, Own, AtL8, H1, H7, Finalized, No}
 use Rattle.rules.specs.Next.{next, llx, scx}
 use Rattle.orders.specs.Demand.{at-h4, at-h8, Works, h1, h4, h7, h8, leads, answers, said, place, cell, mark}
 use Rattle.orders.specs.Demand.{Steps, Change, Closes, During, Effect, Holds, LinkedRead, Verdict}
@@ -78,6 +78,11 @@ unfolding computed table calls
 second-no = verdict second 52 B Own false refl (refl, refl) at-h4 (refl, refl)
 
 -- THE FIELDS
+-- is-a-turn: a start, a step, and a call that is refused
+pub is-a-turn-speaks : (place next table calls 0 A ≡ Idle) × (calls 1 .ask ≡ AskStep) × (said next table calls 65 ≡ Refused NoSuchTask)
+unfolding computed table calls
+is-a-turn-speaks = (refl, refl, refl)
+
 -- is-a-change: an SCX that is accepted
 pub is-a-change-speaks : calls 30 .ask ≡ AskScx 2 2 0 2 7
 unfolding calls
