@@ -1,28 +1,27 @@
 -- Who holds a record: an info alters only when a change takes hold; where it is not 0, it is of the change that took hold last. A record
 -- whose holders all have a verdict is held by nobody, and if none of them closed it, it is open.
-use Prim.Native.Nat.{ℕ, zero, suc, _/_, _%_, _^_, _≤_, _<_}
-use mathlib.Core.Path.{_≡_, refl, sym, ap, _∙_, subst}
+use Prim.Native.Nat.{ℕ, zero, suc, _/_, _%_, _^_, _<_}
+use mathlib.Core.Path.{_≡_, sym, ap, _∙_, subst}
 use mathlib.Core.Bool.{Bool, true, false}
 use mathlib.Core.Logic.{_⊎_, inl, inr, _≢_, ⊎-elim}
 use native.Mathlib.Omega.{arith}
 use native.Mathlib.Nat.{div-one}
 use lib.ListN.{getD}
 use borrow.Author.Tests.{eqb-true}
-use Rattle.rules.specs.Words.{Record, InProgress, Committed, Aborted, Machine, Call}
+use Rattle.rules.specs.Words.{Record, InProgress, Machine, Call}
 use Rattle.rules.specs.Start.{places}
 use Rattle.rules.specs.Next.{next}
 use Rattle.clauses.proofs.Updates.{same?, leb-case, bool?}
-use Rattle.clauses.proofs.Memory.{Terms, Shared, Act, hold, make}
+use Rattle.clauses.proofs.Memory.{Terms, Act, hold, make}
 use Rattle.clauses.proofs.Clauses.{Live, InR}
 use Rattle.clauses.proofs.Rights.{AI, st?, lost-frozen}
-use Rattle.clauses.proofs.Course.{Course, X, S, history, fine, Starts, Unstarted, not-taken, since-start}
+use Rattle.clauses.proofs.Course.{Course, X, S, history, fine, Starts, not-taken, since-start}
 use Rattle.clauses.proofs.Came.{Sets, sets-by, Since, info-came}
 use Rattle.clauses.proofs.Closed.{Marked, marked-by}
 use Rattle.clauses.proofs.Sentences.{happened}
 use Rattle.orders.specs.Demand.{before, info, mark, Change, Closes, During, Effect, Holds, Verdict}
 use Rattle.orders.proofs.Run.{Run, course}
-use Rattle.orders.proofs.Calls.{obeyed}
-use Rattle.orders.proofs.Changes.{terms, makes, passes, alone, during}
+use Rattle.orders.proofs.Changes.{terms, makes, alone, during}
 use Rattle.orders.proofs.Effects.{is-in, effect}
 use Rattle.orders.proofs.Verdicts.{ended, holds}
 
