@@ -6,8 +6,8 @@ use mathlib.Core.Path.{refl, ap}
 use Rattle.rules.specs.Words.{Machine, Call, OutOfShape}
 use Rattle.rules.specs.Next.{refused}
 use Rattle.orders.specs.Demand.{before, Steps, Change, Demand3}
+use Rattle.keeps.proofs.Refused.{isRefusal}
 use Rattle.forged.specs.Broken.{refuses-all}
-use Rattle.forged.proofs.Tests.{isRefused}
 
 module _ (m : Machine) (calls : ℕ → Call) where
   no-steps : (k t : ℕ) → Steps refuses-all m calls k t → ⊥
@@ -16,7 +16,7 @@ module _ (m : Machine) (calls : ℕ → Call) where
 
   no-change : Change refuses-all m calls → ⊥
   unfolding refuses-all refused
-  no-change c = true≢false (ap isRefused (c .accepted))
+  no-change c = true≢false (ap isRefusal (c .accepted))
 
   pub refuses-all-meets : Demand3 refuses-all m calls
   unfolding refuses-all refused before
@@ -24,7 +24,7 @@ module _ (m : Machine) (calls : ℕ → Call) where
       record {
         is-a-turn = λ k. inl (OutOfShape, refl);
         is-a-change = λ k n r written field new e. inl (OutOfShape, refl);
-        is-a-read = λ k h. absurd (true≢false (ap isRefused h));
+        is-a-read = λ k h. absurd (true≢false (ap isRefusal h));
         once = λ c j k e f. absurd (no-change c);
         alters-its-field = λ c k e. absurd (no-change c);
         untouched = λ c k e i l. absurd (no-change c);

@@ -16,11 +16,13 @@ use Rattle.rules.specs.Refuse.{isIdle}
 use Rattle.rules.specs.Next.{llx, scx, stepping}
 use Rattle.orders.specs.Demand.{Brings, at-h3, at-h4, at-h8, leads, answers, before, said, place, cell, info, Steps, Change, named, spot}
 use Rattle.orders.specs.Demand.{During, Effect, Holds, Starts, Going, Snap, LinkedRead, Verdict}
+use Rattle.keeps.proofs.Refused.{isRefusal}
 use Rattle.orders.proofs.Busy.{idle-or}
+use Rattle.orders.proofs.Ways.{isSnapshot}
 use Rattle.clauses.proofs.Updates.{bool?}
 use Rattle.forged.specs.Places.{isH, isScx, isLlx}
 use Rattle.forged.proofs.Through.{scan-on, throughout, throughout-is, silent, silent-is}
-use Rattle.forged.proofs.Tests.{isRefused, isSnapshot, not-refused, not-same, sameList, same-list, sameLink, same-link}
+use Rattle.forged.proofs.Tests.{not-refused, not-same, sameList, same-list, sameLink, same-link}
 
 -- THE TESTS, of a call and the table before it
 module _ (next : Machine → Call → Out) (m : Machine) (calls : ℕ → Call) where
@@ -63,7 +65,7 @@ module _ (next : Machine → Call → Out) (m : Machine) (calls : ℕ → Call) 
 
   -- call k is a STEP of t that is not refused
   abbrev pub going : ℕ → ℕ → Type 0
-  going k t = (calls k ≡ stepping t) × (isRefused (said next m calls k) ≡ false)
+  going k t = (calls k ≡ stepping t) × (isRefusal (said next m calls k) ≡ false)
 
   pub steps : (k t : ℕ) → going k t → Steps next m calls k t
   steps k t g =

@@ -14,8 +14,9 @@ use Rattle.rules.specs.Access.{changeOf}
 use Rattle.rules.specs.Refuse.{isIdle}
 use Rattle.orders.specs.Demand.{answers, Brings, at-h3, at-h4, at-h8, Works, h1, h2, h3, h4, h5, h6, h7, h8}
 use Rattle.orders.specs.Demand.{before, said, place, cell, info, Change, named, spot, Effect, Holds, LinkedRead, Verdict}
+use Rattle.clauses.proofs.SameCell.{same-eq}
 use Rattle.forged.specs.Places.{isH, afterOf, isScx}
-use Rattle.forged.proofs.Tests.{same-cell, picked}
+use Rattle.forged.proofs.Tests.{picked}
 use Rattle.forged.proofs.Through.{scan, scan-is, silent, silent-is}
 use Rattle.forged.proofs.Events.{kept, snaps, snaps-is}
 
@@ -23,7 +24,7 @@ not-kept : (a b : Cell) → a ≢ b → not (sameCell a b) ≡ true
 not-kept a b n = go (sameCell a b) refl
   where
     go : (x : Bool) → sameCell a b ≡ x → not x ≡ true
-    go true e = absurd (n (same-cell a b e))
+    go true e = absurd (n (same-eq a b e))
     go false e = refl
 
 module _ (next : Machine → Call → Out) (m : Machine) (calls : ℕ → Call) where

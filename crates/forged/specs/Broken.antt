@@ -2,6 +2,7 @@
 -- field, stands in proofs/.
 use Prim.Native.Nat.{ℕ, zero, suc, _+_}
 use mathlib.Core.Bool.{Bool, true, false}
+use mathlib.Core.List.{[]}
 use lib.Dec.{eqb, ltb}
 use lib.ListN.{getD, set}
 use Rattle.rules.specs.Words.{State, InProgress, Committed, Aborted, Cell, Place, L1, H4, H5, H6, H7, H8, Seen, Move}
@@ -9,14 +10,14 @@ use Rattle.rules.specs.Words.{Access, Nothing, Hold, Write, Commit, Machine, Ou
 use Rattle.rules.specs.Words.{Ask, AskLlx, AskScx, AskVlx, AskRead, AskStep}
 use Rattle.rules.specs.Start.{atPlace}
 use Rattle.table.specs.Table.{pick, noCells, cellAt, recordAt, changeAt, taskAt, linkAt}
-use Rattle.rules.specs.Access.{changeOf, recordOf}
+use Rattle.rules.specs.Access.{changeOf, recordOf, accessOf}
 use Rattle.rules.specs.Perform.{sawBit, sawNumber}
 use Rattle.rules.specs.Resume.{on, verdict, firstFrom}
 use Rattle.rules.specs.Step.{accessAt, step}
 use Rattle.rules.specs.Refuse.{idleAt}
 use Rattle.rules.specs.Next.{refused, started, next}
 use Rattle.forged.specs.Patched.{as-it-is, stepBy, nextBy}
-use Rattle.forged.specs.Places.{isL, isH, readAt, afterOf, isScx}
+use Rattle.forged.specs.Places.{isL, isH, afterOf, isScx}
 
 -- a machine with one patch
 abbrev pub doing : (Machine → Place → Access → Access) → Machine → Call → Out
@@ -160,7 +161,7 @@ cached m e = keepLink (e .ask) m (e .task) (nextBy stepCached m e)
 
 -- an LLX that finds the info altered at L6 begins again
 unfoldable pub begins-again : Machine → Call → Out
-begins-again = leading (λ m q v. pick (isL 6 q) (pick (isL 7 (v .place)) (on (L1 (readAt q))) v) v)
+begins-again = leading (λ m q v. pick (isL 6 q) (pick (isL 7 (v .place)) (on (L1 (recordOf (accessOf q (changeAt m 0) [])))) v) v)
 
 -- H8 sets nothing: a change that took effect stays InProgress
 unfoldable pub never-commits : Machine → Call → Out

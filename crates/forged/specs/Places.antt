@@ -36,31 +36,6 @@ isL k q = eqb (label q) k
 abbrev pub isH : ℕ → Place → Bool
 isH k q = eqb (label q) (20 + k)
 
--- the record that an LLX reads
-abbrev pub readAt : Place → ℕ
-readAt Idle = 0
-readAt (L1 r) = r
-readAt (L2 r m1) = r
-readAt (L3 r m1 a) = r
-readAt (L4 r m1 a s) = r
-readAt (L5 r m1 a f) = r
-readAt (L6 r m1 a) = r
-readAt (L7 r m1 a) = r
-readAt (L8 r m1 a) = r
-readAt (L9 r) = r
-readAt (L10 r b) = r
-readAt (L11 r) = r
-readAt (H1 u i after) = 0
-readAt (H2 u i after) = 0
-readAt (H3 u after) = 0
-readAt (H4 u after) = 0
-readAt (H5 u after) = 0
-readAt (H6 u i after) = 0
-readAt (H7 u after) = 0
-readAt (H8 u after) = 0
-readAt (Vlx n i) = 0
-readAt (Read r f) = 0
-
 -- Own where the place is in no help
 abbrev pub afterOf : Place → After
 afterOf Idle = Own

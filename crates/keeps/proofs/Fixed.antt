@@ -5,12 +5,10 @@ use native.Mathlib.Omega.{arith}
 use native.Mathlib.Nat.{le-refl}
 use native.Mathlib.Decide.{ℕ-discrete, decLt}
 use mathlib.Core.Path.{_≡_, refl}
-use mathlib.Core.Logic.{_≢_}
-use mathlib.Core.Bool.{Bool}
 use mathlib.Core.List.{List}
 use lib.ListN.{getD, set, length}
 use lib.Seq.{getD-set-same, getD-set-other, set-out}
-use Rattle.rules.specs.Words.{Cell, Change, Machine, Ask, AskLlx, AskScx, AskVlx, AskRead, AskStep, Access, Call, Check, Passed, Failed}
+use Rattle.rules.specs.Words.{Change, Machine, Ask, AskLlx, AskScx, AskVlx, AskRead, AskStep, Access, Call, Check, Passed, Failed}
 use Rattle.table.specs.Table.{noChange, changeAt}
 use Rattle.rules.specs.Access.{changeIn}
 use Rattle.rules.specs.Perform.{changeBy, perform}

@@ -114,23 +114,3 @@ kept-sized m e Z = go (check (rulesOf m e))
     go : (c : Check) → Sized (answered c m e .m)
     go Passed = accepted-sized m Z (e .task) (e .ask) (e .list)
     go (Failed why) = Z
-
--- of the changes alone: room for all 255 numbers and the dummy
-pub fresh-changes : (p n : ℕ) (values : List ℕ) → inRange p n (length values) ≡ true → length (fresh p n values .m .changes) ≡ 256
-fresh-changes p n values e = fresh-sized p n values e .changes
-
-accepted-changes : (m : Machine) (t : ℕ) (ask : Ask) (l : List ℕ) → length (accepted m t ask l .m .changes) ≡ length (m .changes)
-unfolding started start step settle perform
-accepted-changes m t (AskLlx r) l = refl
-accepted-changes m t (AskScx n r written field new) l = length-set (m .changes) _ _
-accepted-changes m t (AskVlx n) l = refl
-accepted-changes m t (AskRead r f) l = refl
-accepted-changes m t AskStep l = length-set (m .changes) _ _
-
-pub kept-changes : (m : Machine) (e : Call) → length (next m e .m .changes) ≡ length (m .changes)
-unfolding next refused
-kept-changes m e = go (check (rulesOf m e))
-  where
-    go : (c : Check) → length (answered c m e .m .changes) ≡ length (m .changes)
-    go Passed = accepted-changes m (e .task) (e .ask) (e .list)
-    go (Failed why) = refl

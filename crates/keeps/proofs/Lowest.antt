@@ -6,7 +6,7 @@ use mathlib.Core.Path.{_≡_, refl, ap}
 use mathlib.Core.Bool.{Bool, true, false}
 use mathlib.Core.List.{List, [], _∷_, _++_, map}
 use lib.Dec.{ltb}
-use Rattle.rules.specs.Words.{Machine, Call, Refusal, Check, Passed, Failed}
+use Rattle.rules.specs.Words.{Machine, Call, Refusal, Passed, Failed}
 use Rattle.rules.specs.Words.{Ask, AskLlx, AskScx, AskVlx, AskRead, AskStep}
 use Rattle.table.specs.Table.{pick}
 use Rattle.rules.specs.Claim.{test}

@@ -7,7 +7,6 @@ use mathlib.Core.Bool.{Bool, true, false, not, true≢false}
 use mathlib.Core.List.{List, _∷_}
 use lib.Dec.{eqb, ltb}
 use lib.Seq.{getD-set-other}
-use borrow.Author.Tests.{not-true}
 use Rattle.rules.specs.Words.{State, InProgress, Committed, Aborted, Change, After, Own, AtL8, AtL11, Machine, Seen, Move}
 use Rattle.rules.specs.Words.{Place, Idle, L1, L2, L3, L4, L5, L6, L7, L8, L9, L10, L11, H1, H2, H3, H4, H5, H6, H7, H8, Vlx, Read}
 use Rattle.rules.specs.Words.{Ask, AskLlx, AskScx, AskVlx, AskRead, AskStep, Call, Check, Passed, Failed}
