@@ -3,3 +3,4 @@ pub mod Refusal
 pub mod Start
 pub mod Step
 pub mod Turn
+pub mod Hand

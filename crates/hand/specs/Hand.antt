@@ -1,0 +1,132 @@
+-- A call on what it has in hand, and put in place in the table. `next` of the rules says the same of a table in shape (proofs/Turn).
+use Prim.Native.Nat.{ℕ, _%_}
+use mathlib.Core.List.{List}
+use lib.ListN.{set}
+use Rattle.rules.specs.Words.{Record, Change, Place, Task, Link, Machine, Ask, AskLlx, AskScx, AskVlx, AskRead, AskStep, Call, Refusal, Accepted, Refused, Out, Access, Check, Passed, Failed}
+use Rattle.table.specs.Table.{noCells, recordAt, changeAt, taskAt, slot, linkAt}
+use Rattle.rules.specs.Access.{changeOf, accessOf, recordOf}
+use Rattle.rules.specs.Step.{dropFirst}
+use Rattle.rules.specs.Refuse.{isIdle, check, rules}
+use Rattle.refuse.specs.Linked.{linkedIn}
+use Rattle.begin.specs.declared.Begun.{Begun}
+use Rattle.begin.specs.Begun.{nextNumber, begunBy}
+use Rattle.act.specs.declared.Stored.{Stored}
+use Rattle.act.specs.Act.{actOf}
+use Rattle.turns.specs.Turn.{clip, linksOf}
+use Rattle.hand.specs.declared.Hand.{Hand}
+use Rattle.hand.specs.declared.Turned.{Turned}
+
+abbrev pub numberOf : Ask → ℕ → Place → ℕ
+numberOf (AskLlx r) used q = nextNumber used
+numberOf (AskScx n r written field new) used q = nextNumber used
+numberOf (AskVlx n) used q = nextNumber used
+numberOf (AskRead r f) used q = nextNumber used
+numberOf AskStep used q = changeOf q
+
+-- refused: all as it was
+abbrev pub keptBy : Hand → Refusal → Turned
+keptBy h why =
+    record {
+      used = h .used;
+      rec = h .rec;
+      change = h .change;
+      task = h .task;
+      link = h .link;
+      drop = 0;
+      list = h .task .list;
+      answer = Refused why;
+      cells = noCells;
+    }
+
+-- a start: no record and no link but those it drops
+abbrev pub begunOf : Hand → Begun → Turned
+begunOf h b =
+    record {
+      used = b .used;
+      rec = h .rec;
+      change = b .change;
+      task = b .task;
+      link = h .link;
+      drop = b .drop;
+      list = b .list;
+      answer = Accepted;
+      cells = noCells;
+    }
+
+-- a step: no number
+abbrev pub steppedOf : Hand → Stored → Turned
+steppedOf h d =
+    record {
+      used = h .used;
+      rec = d .rec;
+      change = d .change;
+      task = d .task;
+      link = d .link;
+      drop = d .drop;
+      list = h .task .list;
+      answer = d .answer;
+      cells = d .cells;
+    }
+
+abbrev pub passedOf : Hand → Ask → List ℕ → Turned
+passedOf h (AskLlx r) l = begunOf h (begunBy (AskLlx r) l (h .used) (h .task) (h .change) (h .near))
+passedOf h (AskScx n r written field new) l =
+    begunOf h (begunBy (AskScx n r written field new) l (h .used) (h .task) (h .change) (h .near))
+passedOf h (AskVlx n) l = begunOf h (begunBy (AskVlx n) l (h .used) (h .task) (h .change) (h .near))
+passedOf h (AskRead r f) l = begunOf h (begunBy (AskRead r f) l (h .used) (h .task) (h .change) (h .near))
+passedOf h AskStep l = steppedOf h (actOf (h .task) (h .access) (h .change) (h .rec) (h .link))
+
+abbrev pub checkedOf : Check → Hand → Call → Turned
+checkedOf Passed h e = passedOf h (e .ask) (e .list)
+checkedOf (Failed why) h e = keptBy h why
+
+unfoldable pub turnOf : Hand → Call → Turned
+turnOf h e =
+    checkedOf
+    (check (rules (h .p) (h .n) (h .used) (isIdle (h .task .place)) (linkedIn (e .ask) (h .near)) (e .task) (e .ask) (e .list)))
+    h
+    e
+
+-- what a call of task t has in hand: change c, access a, record r
+abbrev pub handAt : Machine → ℕ → List ℕ → ℕ → Access → ℕ → Hand
+handAt m t l c a r =
+    record {
+      p = m .p;
+      n = m .n;
+      used = m .used;
+      task = taskAt m t;
+      access = a;
+      change = changeAt m c;
+      rec = recordAt m r;
+      link = linkAt m t r;
+      near = linksOf (m .links) t l;
+    }
+
+-- what it leaves, put in place
+unfoldable pub putTurn : Machine → ℕ → ℕ → ℕ → Turned → Out
+putTurn m t c r d =
+    record {
+      m = record {
+        p = m .p;
+        n = m .n;
+        used = d .used;
+        records = set (m .records) r (d .rec);
+        changes = set (m .changes) c (d .change);
+        tasks = set (m .tasks) t (d .task);
+        links = dropFirst (set (m .links) (slot t r) (d .link)) t (clip (d .list)) (d .drop);
+      };
+      answer = d .answer;
+      cells = d .cells;
+    }
+
+unfoldable pub turnWith : Machine → Call → ℕ → ℕ → Access → ℕ → Out
+turnWith m e t c a r = putTurn m t c r (turnOf (handAt m t (e .list) c a r) e)
+
+-- a call, every index clipped
+unfoldable pub turnIn : Machine → Call → Out
+turnIn m e =
+    let t = e .task % 8 in
+    let x = taskAt m t in
+    let c = numberOf (e .ask) (m .used) (x .place) in
+    let a = accessOf (x .place) (changeAt m c) (x .list) in
+    turnWith m e t c a (recordOf a % 32)

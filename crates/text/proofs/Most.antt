@@ -1,0 +1,45 @@
+-- How long a line can be: six bytes for a number of up to five digits and what comes after it.
+use Prim.Native.Nat.{ℕ, zero, suc, _+_, _*_, _/_, _≤_, _<_}
+use native.Mathlib.Nat.{mul-suc}
+use native.Mathlib.Omega.{arith}
+use mathlib.Core.Bool.{Bool, true, false}
+use mathlib.Core.Path.{_≡_, refl}
+use mathlib.Core.List.{List, [], _∷_, _++_}
+use lib.Dec.{eqb}
+use lib.ListN.{length, getD, length-append}
+use Rattle.table.specs.Table.{pick}
+use Rattle.text.specs.Text.{last, lead, digits, joined, ended, wordAt, row, lettered}
+
+both-most : (s t : List ℕ) (j k : ℕ) → length s ≤ j → length t ≤ k → length (s ++ t) ≤ j + k
+both-most s t j k a b = rw (length-append s t) (omega arith)
+
+lead-most : (x : ℕ) → length (lead x) ≤ 1
+unfolding lead
+lead-most x = go (eqb x 0)
+  where
+    go : (b : Bool) → length (pick b [] (last x)) ≤ 1
+    go true = omega arith
+    go false = omega arith
+
+digits-most : (x : ℕ) → length (digits x) ≤ 5
+unfolding digits
+digits-most x =
+    both-most (lead (x / 10000) ++ lead (x / 1000) ++ lead (x / 100) ++ lead (x / 10)) (last x) 4 1
+    (both-most (lead (x / 10000) ++ lead (x / 1000) ++ lead (x / 100)) (lead (x / 10)) 3 1
+    (both-most (lead (x / 10000) ++ lead (x / 1000)) (lead (x / 100)) 2 1
+    (both-most (lead (x / 10000)) (lead (x / 1000)) 1 1 (lead-most (x / 10000)) (lead-most (x / 1000)))
+    (lead-most (x / 100)))
+    (lead-most (x / 10)))
+    (omega arith)
+
+-- pieces of at most k bytes
+pub joined-most : (f : ℕ → List ℕ) (k n : ℕ) → ((i : ℕ) → length (f i) ≤ k) → length (joined f n) ≤ k * n
+unfolding joined
+joined-most f k zero h = omega arith
+joined-most f k (suc n) h = rw mul-suc (both-most (joined f n) (f n) (k * n) k (joined-most f k n h) (h n))
+
+pub row-most : (xs : List ℕ) → length (row xs) ≤ 6 * length xs
+row-most xs = joined-most (wordAt xs) 6 (length xs) (λ i. both-most (digits (getD xs i 0)) (ended (length xs) i ∷ []) 5 1 (digits-most (getD xs i 0)) (omega arith))
+
+pub lettered-most : (letter : ℕ) (xs : List ℕ) → length (lettered letter xs) ≤ 2 + 6 * length xs
+lettered-most letter xs = both-most ((letter ∷ []) ++ (32 ∷ [])) (row xs) 2 (6 * length xs) (omega arith) (row-most xs)
