@@ -1,0 +1,126 @@
+-- THE LAST LINE: "Last `T` with the changes made (SCX that answered yes), SCX that answered no, LLX that answered Fail."
+-- An answer counts by the operation that its task was in before the call, so a VLX's yes or no counts nowhere.
+use Prim.Native.Nat.{ℕ, zero, suc, _+_, _%_, _^_}
+use mathlib.Core.List.{List, [], _∷_, _++_}
+use mathlib.Core.Bool.{Bool, true, false}
+use Rattle.table.specs.Table.{pick}
+use Rattle.table.specs.declared.After.{After}
+use Rattle.table.specs.declared.After.the-variants.{Own, AtL8, AtL11}
+use Rattle.table.specs.declared.Place.{Place}
+use Rattle.table.specs.declared.Place.the-variants.{Idle, L1, L2, L3, L4, L5, L6, L7, L8, L9, L10, L11}
+use Rattle.table.specs.declared.Place.the-variants.{H1, H2, H3, H4, H5, H6, H7, H8, Vlx as AtVlx, Read as AtRead}
+use Rattle.table.specs.declared.Answer.{Answer}
+use Rattle.table.specs.declared.Answer.the-variants.{Accepted, Snapshot, Finalized, Fail, Yes, No, Value, Refused}
+use Rattle.tally.specs.declared.Tally.{Tally}
+use Rattle.tally.specs.declared.Operation.{Operation}
+use Rattle.tally.specs.declared.Operation.the-variants.{None, Llx, Scx, Vlx, Read}
+use Rattle.tally.specs.declared.Told.{Told}
+
+-- who helps its own change is in an SCX, who helps from L8 or L11 in an LLX
+abbrev pub helpingOf : After → Operation
+helpingOf Own = Scx
+helpingOf (AtL8 r m1) = Llx
+helpingOf AtL11 = Llx
+
+-- the operation that a task at a place is in
+abbrev pub operationOf : Place → Operation
+operationOf Idle = None
+operationOf (L1 r) = Llx
+operationOf (L2 r m1) = Llx
+operationOf (L3 r m1 a) = Llx
+operationOf (L4 r m1 a s) = Llx
+operationOf (L5 r m1 a f) = Llx
+operationOf (L6 r m1 a) = Llx
+operationOf (L7 r m1 a) = Llx
+operationOf (L8 r m1 a) = Llx
+operationOf (L9 r) = Llx
+operationOf (L10 r b) = Llx
+operationOf (L11 r) = Llx
+operationOf (H1 u i after) = helpingOf after
+operationOf (H2 u i after) = helpingOf after
+operationOf (H3 u after) = helpingOf after
+operationOf (H4 u after) = helpingOf after
+operationOf (H5 u after) = helpingOf after
+operationOf (H6 u i after) = helpingOf after
+operationOf (H7 u after) = helpingOf after
+operationOf (H8 u after) = helpingOf after
+operationOf (AtVlx n i) = Vlx
+operationOf (AtRead r f) = Read
+
+-- whether an SCX's answer is yes
+abbrev pub isYes : Answer → Bool
+isYes Accepted = false
+isYes Snapshot = false
+isYes Finalized = false
+isYes Fail = false
+isYes Yes = true
+isYes No = false
+isYes (Value cell) = false
+isYes (Refused why) = false
+
+abbrev pub isNoAnswer : Answer → Bool
+isNoAnswer Accepted = false
+isNoAnswer Snapshot = false
+isNoAnswer Finalized = false
+isNoAnswer Fail = false
+isNoAnswer Yes = false
+isNoAnswer No = true
+isNoAnswer (Value cell) = false
+isNoAnswer (Refused why) = false
+
+abbrev pub isFailAnswer : Answer → Bool
+isFailAnswer Accepted = false
+isFailAnswer Snapshot = false
+isFailAnswer Finalized = false
+isFailAnswer Fail = true
+isFailAnswer Yes = false
+isFailAnswer No = false
+isFailAnswer (Value cell) = false
+isFailAnswer (Refused why) = false
+
+-- b of an SCX's answer, false of any other
+abbrev pub ofScx : Operation → Bool → Bool
+ofScx None b = false
+ofScx Llx b = false
+ofScx Scx b = b
+ofScx Vlx b = false
+ofScx Read b = false
+
+abbrev pub ofLlx : Operation → Bool → Bool
+ofLlx None b = false
+ofLlx Llx b = b
+ofLlx Scx b = false
+ofLlx Vlx b = false
+ofLlx Read b = false
+
+-- an SCX answered yes; an SCX answered no; an LLX answered Fail
+abbrev pub isMade : Told → Bool
+isMade x = ofScx (x .operation) (isYes (x .answer))
+
+abbrev pub isNo : Told → Bool
+isNo x = ofScx (x .operation) (isNoAnswer (x .answer))
+
+abbrev pub isFail : Told → Bool
+isFail x = ofLlx (x .operation) (isFailAnswer (x .answer))
+
+-- how many of a list
+abbrev pub counts : (Told → Bool) → List Told → ℕ
+counts f [] = 0
+counts f (x ∷ l) = pick (f x) 1 0 + counts f l
+
+-- THE MEANING OF `T`: how many of the answers are each
+abbrev pub tallyOf : List Told → Tally
+tallyOf l = record { made = counts isMade l; no = counts isNo l; fail = counts isFail l }
+
+-- one more where b holds; a number of the tally has 16 bits
+abbrev pub oneMore : Bool → ℕ → ℕ
+oneMore b n = pick b ((n + 1) % 2 ^ 16) n
+
+-- what one answer does to the tally
+abbrev pub countedOf : Tally → Told → Tally
+countedOf t x = record { made = oneMore (isMade x) (t .made); no = oneMore (isNo x) (t .no); fail = oneMore (isFail x) (t .fail) }
+
+-- the first n of the answers f 0, f 1, ..
+abbrev pub firstOf : (ℕ → Told) → ℕ → List Told
+firstOf f zero = []
+firstOf f (suc n) = firstOf f n ++ (f n ∷ [])
