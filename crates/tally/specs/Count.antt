@@ -104,12 +104,12 @@ abbrev pub isFail : Told → Bool
 isFail x = ofLlx (x .operation) (isFailAnswer (x .answer))
 
 -- how many of a list
-abbrev pub counts : (Told → Bool) → List Told → ℕ
+unfoldable pub counts : (Told → Bool) → List Told → ℕ
 counts f [] = 0
 counts f (x ∷ l) = pick (f x) 1 0 + counts f l
 
 -- THE MEANING OF `T`: how many of the answers are each
-abbrev pub tallyOf : List Told → Tally
+unfoldable pub tallyOf : List Told → Tally
 tallyOf l = record { made = counts isMade l; no = counts isNo l; fail = counts isFail l }
 
 -- one more where b holds; a number of the tally has 16 bits
@@ -117,10 +117,10 @@ abbrev pub oneMore : Bool → ℕ → ℕ
 oneMore b n = pick b ((n + 1) % 2 ^ 16) n
 
 -- what one answer does to the tally
-abbrev pub countedOf : Tally → Told → Tally
+unfoldable pub countedOf : Tally → Told → Tally
 countedOf t x = record { made = oneMore (isMade x) (t .made); no = oneMore (isNo x) (t .no); fail = oneMore (isFail x) (t .fail) }
 
 -- the first n of the answers f 0, f 1, ..
-abbrev pub firstOf : (ℕ → Told) → ℕ → List Told
+unfoldable pub firstOf : (ℕ → Told) → ℕ → List Told
 firstOf f zero = []
 firstOf f (suc n) = firstOf f n ++ (f n ∷ [])

@@ -1,4 +1,5 @@
 use borrow.Author.Needs.{needs}
+use Rattle.tally.specs.Count.{countedOf}
 use Rattle.tally.proofs.counted.Statement.{statement}
 use Rattle.tally.proofs.counted.Tie as tie
 use Rattle.tally.proofs.counted.Reads as reads
@@ -36,22 +37,27 @@ enum-told-5 c = search needs
 
 -- src/lib.rt:131:1
 returns : tie.Need-returns
+unfolding countedOf
 returns c = simp (c .enum-told .given .1)
 
 -- src/lib.rt:131:1
 returns-2 : tie.Need-returns-2
+unfolding countedOf
 returns-2 c = simp (c .before .enum-told2 .given .1) (c .llx-counted .ensures)
 
 -- src/lib.rt:131:1
 returns-3 : tie.Need-returns-3
+unfolding countedOf
 returns-3 c = simp (c .before .enum-told3 .given .1) (c .scx-counted .ensures)
 
 -- src/lib.rt:131:1
 returns-4 : tie.Need-returns-4
+unfolding countedOf
 returns-4 c = simp (c .enum-told4 .given .1)
 
 -- src/lib.rt:131:1
 returns-5 : tie.Need-returns-5
+unfolding countedOf
 returns-5 c = simp (c .enum-told5 .given .1)
 
 pub counted-spec : {M : Type 1} → statement M

@@ -1,4 +1,5 @@
 use borrow.Author.Needs.{needs}
+use Rattle.tally.specs.Count.{countedOf}
 use Rattle.tally.proofs.llx_counted.Statement.{statement}
 use Rattle.tally.proofs.llx_counted.Tie as tie
 use Rattle.tally.proofs.llx_counted.Reads as reads
@@ -43,34 +44,42 @@ enum-told-8 c = search needs
 
 -- src/lib.rt:111:1
 returns : tie.Need-returns
+unfolding countedOf
 returns c = simp (c .enum-told .given .1)
 
 -- src/lib.rt:111:1
 returns-2 : tie.Need-returns-2
+unfolding countedOf
 returns-2 c = simp (c .enum-told2 .given .1)
 
 -- src/lib.rt:111:1
 returns-3 : tie.Need-returns-3
+unfolding countedOf
 returns-3 c = simp (c .enum-told3 .given .1)
 
 -- src/lib.rt:111:1
 returns-4 : tie.Need-returns-4
+unfolding countedOf
 returns-4 c = simp (c .before .enum-told4 .given .1, c .wrapping-add-u16 .ensures)
 
 -- src/lib.rt:111:1
 returns-5 : tie.Need-returns-5
+unfolding countedOf
 returns-5 c = simp (c .enum-told5 .given .1)
 
 -- src/lib.rt:111:1
 returns-6 : tie.Need-returns-6
+unfolding countedOf
 returns-6 c = simp (c .enum-told6 .given .1)
 
 -- src/lib.rt:111:1
 returns-7 : tie.Need-returns-7
+unfolding countedOf
 returns-7 c = simp (c .enum-told7 .given .1)
 
 -- src/lib.rt:111:1
 returns-8 : tie.Need-returns-8
+unfolding countedOf
 returns-8 c = simp (c .enum-told8 .given .1)
 
 pub llx-counted-spec : {M : Type 1} → statement M
