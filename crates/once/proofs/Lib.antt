@@ -1,3 +1,4 @@
 pub mod Once
 pub mod Entries
 pub mod Inner
+pub mod Tally

@@ -1,6 +1,6 @@
 -- Counting each answer as it comes gives the tally of the answers so far: "one small record that every answer brings up to date".
 -- A list of up to 65,535 answers wraps no number; a sheet has at most 5,000 events.
-use Prim.Native.Nat.{ℕ, zero, suc, _+_, _%_, _^_, _≤_, _<_}
+use Prim.Native.Nat.{ℕ, zero, suc, _+_, _≤_, _<_}
 use native.Mathlib.Omega.{arith}
 use native.Mathlib.Nat.{mod-eq-of-lt}
 use native.Mathlib.Numerals.{add-one}
@@ -9,7 +9,6 @@ use mathlib.Core.List.{List, [], _∷_, _++_}
 use mathlib.Core.Bool.{Bool, true, false}
 use lib.ListN.{length, length-append}
 use Rattle.table.specs.Table.{pick}
-use Rattle.tally.specs.declared.Tally.{Tally}
 use Rattle.tally.specs.declared.Told.{Told}
 use Rattle.tally.specs.Count.{isMade, isNo, isFail, counts, tallyOf, oneMore, countedOf, firstOf}
 

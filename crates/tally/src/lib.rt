@@ -1,8 +1,8 @@
 // The tally of the last line `T`: changes made, SCX that answered no, LLX that answered Fail. Every answer brings it up to date.
 ghost use mathlib.Core.Path.{_≡_};
-ghost use Rattle.tally.specs.Count.{helpingOf, operationOf, countedOf, tallyOf};
-ghost use Rattle.tally.specs.declared.Operation.the-variants.{Llx, Scx};
 ghost use mathlib.Core.List.{[]};
+ghost use Rattle.tally.specs.Count.{helpingOf, operationOf, tallyOf, countedOf};
+ghost use Rattle.tally.specs.declared.Operation.the-variants.{Llx, Scx};
 use table::After;
 use table::Answer;
 use table::Place;
@@ -84,7 +84,7 @@ pub fn none() -> Tally
     }
 }
 
-// An SCX's yes is a change made.
+// The tally after an SCX's answer: yes is a change made. It has 16 bits and a sheet at most 5,000 events, so no number wraps.
 fn scx_counted(t: Tally, answer: Answer) -> Tally
     ensures { λ o. ⌜ o ≡ countedOf t (record { operation = Scx; answer = answer }) ⌝ }
 {
@@ -108,6 +108,7 @@ fn scx_counted(t: Tally, answer: Answer) -> Tally
     }
 }
 
+// The tally after an LLX's answer.
 fn llx_counted(t: Tally, answer: Answer) -> Tally
     ensures { λ o. ⌜ o ≡ countedOf t (record { operation = Llx; answer = answer }) ⌝ }
 {
@@ -127,7 +128,7 @@ fn llx_counted(t: Tally, answer: Answer) -> Tally
     }
 }
 
-// The tally after one answer more.
+// The tally after one answer more; a VLX's yes or no counts nowhere.
 pub fn counted(t: Tally, told: Told) -> Tally
     ensures { λ o. ⌜ o ≡ countedOf t told ⌝ }
 {

@@ -1,61 +1,46 @@
+-- `tally::counted` meets its contract: which operation answered picks what counts.
 use borrow.Author.Needs.{needs}
 use Rattle.tally.specs.Count.{countedOf}
 use Rattle.tally.proofs.counted.Statement.{statement}
 use Rattle.tally.proofs.counted.Tie as tie
-use Rattle.tally.proofs.counted.Reads as reads
-use Rattle.tally.proofs.counted.Lts as lts
-use Rattle.tally.proofs.llx_counted.Reads as llx-counted-reads
-use Rattle.tally.proofs.scx_counted.Reads as scx-counted-reads
 
--- src/lib.rt:137:28
 enum-told : tie.Need-enum-told
 enum-told c = search needs
 
--- src/lib.rt:138:27
 enum-told-2 : tie.Need-enum-told-2
 enum-told-2 c = search needs
 
--- src/lib.rt:138:27
 llx-counted-requires : tie.Need-llx-counted-requires
 llx-counted-requires c κs = search needs
 
--- src/lib.rt:139:27
 enum-told-3 : tie.Need-enum-told-3
 enum-told-3 c = search needs
 
--- src/lib.rt:139:27
 scx-counted-requires : tie.Need-scx-counted-requires
 scx-counted-requires c κs = search needs
 
--- src/lib.rt:140:27
 enum-told-4 : tie.Need-enum-told-4
 enum-told-4 c = search needs
 
--- src/lib.rt:141:28
 enum-told-5 : tie.Need-enum-told-5
 enum-told-5 c = search needs
 
--- src/lib.rt:131:1
 returns : tie.Need-returns
 unfolding countedOf
 returns c = simp (c .enum-told .given .1)
 
--- src/lib.rt:131:1
 returns-2 : tie.Need-returns-2
 unfolding countedOf
 returns-2 c = simp (c .before .enum-told2 .given .1) (c .llx-counted .ensures)
 
--- src/lib.rt:131:1
 returns-3 : tie.Need-returns-3
 unfolding countedOf
 returns-3 c = simp (c .before .enum-told3 .given .1) (c .scx-counted .ensures)
 
--- src/lib.rt:131:1
 returns-4 : tie.Need-returns-4
 unfolding countedOf
 returns-4 c = simp (c .enum-told4 .given .1)
 
--- src/lib.rt:131:1
 returns-5 : tie.Need-returns-5
 unfolding countedOf
 returns-5 c = simp (c .enum-told5 .given .1)

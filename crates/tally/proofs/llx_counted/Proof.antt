@@ -1,83 +1,64 @@
+-- `tally::llx_counted` meets its contract: only Fail brings one more.
 use borrow.Author.Needs.{needs}
 use Rattle.tally.specs.Count.{countedOf}
 use Rattle.tally.proofs.llx_counted.Statement.{statement}
 use Rattle.tally.proofs.llx_counted.Tie as tie
-use Rattle.tally.proofs.llx_counted.Reads as reads
-use Rattle.tally.proofs.llx_counted.Lts as lts
-use Rattle.std.proofs.num.wrapping_add_u16.Reads as wrapping-add-u16-reads
 
--- src/lib.rt:115:29
 enum-told : tie.Need-enum-told
 enum-told c = search needs
 
--- src/lib.rt:116:29
 enum-told-2 : tie.Need-enum-told-2
 enum-told-2 c = search needs
 
--- src/lib.rt:117:30
 enum-told-3 : tie.Need-enum-told-3
 enum-told-3 c = search needs
 
--- src/lib.rt:121:19
 enum-told-4 : tie.Need-enum-told-4
 enum-told-4 c = search needs
 
--- src/lib.rt:121:19
 wrapping-add-u16-requires : tie.Need-wrapping-add-u16-requires
 wrapping-add-u16-requires c κs = search needs
 
--- src/lib.rt:123:24
 enum-told-5 : tie.Need-enum-told-5
 enum-told-5 c = search needs
 
--- src/lib.rt:124:23
 enum-told-6 : tie.Need-enum-told-6
 enum-told-6 c = search needs
 
--- src/lib.rt:125:33
 enum-told-7 : tie.Need-enum-told-7
 enum-told-7 c = search needs
 
--- src/lib.rt:126:35
 enum-told-8 : tie.Need-enum-told-8
 enum-told-8 c = search needs
 
--- src/lib.rt:111:1
 returns : tie.Need-returns
 unfolding countedOf
 returns c = simp (c .enum-told .given .1)
 
--- src/lib.rt:111:1
 returns-2 : tie.Need-returns-2
 unfolding countedOf
 returns-2 c = simp (c .enum-told2 .given .1)
 
--- src/lib.rt:111:1
 returns-3 : tie.Need-returns-3
 unfolding countedOf
 returns-3 c = simp (c .enum-told3 .given .1)
 
--- src/lib.rt:111:1
 returns-4 : tie.Need-returns-4
 unfolding countedOf
 returns-4 c = simp (c .before .enum-told4 .given .1, c .wrapping-add-u16 .ensures)
 
--- src/lib.rt:111:1
 returns-5 : tie.Need-returns-5
 unfolding countedOf
 returns-5 c = simp (c .enum-told5 .given .1)
 
--- src/lib.rt:111:1
 returns-6 : tie.Need-returns-6
 unfolding countedOf
 returns-6 c = simp (c .enum-told6 .given .1)
 
--- src/lib.rt:111:1
 returns-7 : tie.Need-returns-7
 unfolding countedOf
 returns-7 c = simp (c .enum-told7 .given .1)
 
--- src/lib.rt:111:1
 returns-8 : tie.Need-returns-8
 unfolding countedOf
 returns-8 c = simp (c .enum-told8 .given .1)

@@ -1,87 +1,67 @@
+-- `tally::scx_counted` meets its contract: yes and no each bring one more to their own number.
 use borrow.Author.Needs.{needs}
 use Rattle.tally.specs.Count.{countedOf}
 use Rattle.tally.proofs.scx_counted.Statement.{statement}
 use Rattle.tally.proofs.scx_counted.Tie as tie
-use Rattle.tally.proofs.scx_counted.Reads as reads
-use Rattle.tally.proofs.scx_counted.Lts as lts
-use Rattle.std.proofs.num.wrapping_add_u16.Reads as wrapping-add-u16-reads
 
--- src/lib.rt:92:29
 enum-told : tie.Need-enum-told
 enum-told c = search needs
 
--- src/lib.rt:93:29
 enum-told-2 : tie.Need-enum-told-2
 enum-told-2 c = search needs
 
--- src/lib.rt:94:30
 enum-told-3 : tie.Need-enum-told-3
 enum-told-3 c = search needs
 
--- src/lib.rt:95:25
 enum-told-4 : tie.Need-enum-told-4
 enum-told-4 c = search needs
 
--- src/lib.rt:97:19
 enum-told-5 : tie.Need-enum-told-5
 enum-told-5 c = search needs
 
--- src/lib.rt:97:19
 wrapping-add-u16-requires : tie.Need-wrapping-add-u16-requires
 wrapping-add-u16-requires c κs = search needs
 
--- src/lib.rt:103:17
 enum-told-6 : tie.Need-enum-told-6
 enum-told-6 c = search needs
 
--- src/lib.rt:103:17
 wrapping-add-u16-requires-2 : tie.Need-wrapping-add-u16-requires-2
 wrapping-add-u16-requires-2 c κs = search needs
 
--- src/lib.rt:106:33
 enum-told-7 : tie.Need-enum-told-7
 enum-told-7 c = search needs
 
--- src/lib.rt:107:35
 enum-told-8 : tie.Need-enum-told-8
 enum-told-8 c = search needs
 
--- src/lib.rt:88:1
 returns : tie.Need-returns
 unfolding countedOf
 returns c = simp (c .enum-told .given .1)
 
--- src/lib.rt:88:1
 returns-2 : tie.Need-returns-2
 unfolding countedOf
 returns-2 c = simp (c .enum-told2 .given .1)
 
--- src/lib.rt:88:1
 returns-3 : tie.Need-returns-3
 unfolding countedOf
 returns-3 c = simp (c .enum-told3 .given .1)
 
--- src/lib.rt:88:1
 returns-4 : tie.Need-returns-4
 unfolding countedOf
 returns-4 c = simp (c .enum-told4 .given .1)
 
--- src/lib.rt:88:1
 returns-5 : tie.Need-returns-5
 unfolding countedOf
 returns-5 c = simp (c .before .enum-told5 .given .1, c .wrapping-add-u16 .ensures)
 
--- src/lib.rt:88:1
 returns-6 : tie.Need-returns-6
 unfolding countedOf
 returns-6 c = simp (c .before .enum-told6 .given .1, c .wrapping-add-u162 .ensures)
 
--- src/lib.rt:88:1
 returns-7 : tie.Need-returns-7
 unfolding countedOf
 returns-7 c = simp (c .enum-told7 .given .1)
 
--- src/lib.rt:88:1
 returns-8 : tie.Need-returns-8
 unfolding countedOf
 returns-8 c = simp (c .enum-told8 .given .1)
