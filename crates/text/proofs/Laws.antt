@@ -105,16 +105,16 @@ pub _⟫_ : {old mid new : List ℕ} {at r q : ℕ} {s t : List ℕ} → Put old
 _⟫_ {old} {mid} {new} {at} {r} {q} {s} {t} a b =
     record {
       held =
-        b .held
-        ∙ ap (λ i. sets mid i t) (a .next)
-        ∙ after-end old mid s t at (a .held) (a .kept)
-        ∙ ap (λ x. sets x (at + length s) t) (a .held)
-        ∙ sym (sets-append s t old at);
+          b .held
+          ∙ ap (λ i. sets mid i t) (a .next)
+          ∙ after-end old mid s t at (a .held) (a .kept)
+          ∙ ap (λ x. sets x (at + length s) t) (a .held)
+          ∙ sym (sets-append s t old at);
       next =
-        b .next
-        ∙ ap₂ (λ size i. past size i (length t)) (a .kept) (a .next)
-        ∙ past-past (length old) at (length s) (length t)
-        ∙ ap (past (length old) at) (sym (length-append s t));
+          b .next
+          ∙ ap₂ (λ size i. past size i (length t)) (a .kept) (a .next)
+          ∙ past-past (length old) at (length s) (length t)
+          ∙ ap (past (length old) at) (sym (length-append s t));
       kept = b .kept ∙ a .kept;
     }
 

@@ -1,0 +1,91 @@
+// The lines of a run, written into a lent buffer.
+ghost use mathlib.Core.Path.{_≡_};
+ghost use mathlib.Core.List.{[], _∷_, map};
+ghost use Rattle.text.specs.Put.{Put};
+ghost use Rattle.text.specs.Text.{row};
+ghost use Rattle.lines.specs.Lines.{bit, answerLine, recordLine, tallyLine, refusalLine};
+use table::Answer;
+use table::Cells;
+use table::Record;
+use table::Refusal;
+use tally::Tally;
+
+// An answer with no values.
+fn put_bare(out: &mut [u8], at: usize, k: u16, t: u8, no: u8) -> usize
+    ensures { λ r. ⌜ Put (now (out .entry)) at (row (k ∷ t ∷ no ∷ [])) (now (out .exit)) r ⌝ }
+{
+    let xs = [k, t as u16, no as u16];
+    text::put_row(out, at, &xs)
+}
+
+// An answer with one value.
+fn put_value(out: &mut [u8], at: usize, k: u16, t: u8, value: u16) -> usize
+    ensures { λ r. ⌜ Put (now (out .entry)) at (row (k ∷ t ∷ 6 ∷ value ∷ [])) (now (out .exit)) r ⌝ }
+{
+    let xs = [k, t as u16, 6, value];
+    text::put_row(out, at, &xs)
+}
+
+// An answer with four values.
+fn put_snapshot(out: &mut [u8], at: usize, k: u16, t: u8, cells: Cells) -> usize
+    ensures { λ r. ⌜ Put (now (out .entry)) at (row (k ∷ t ∷ 1 ∷ map (λ c. c .value) cells)) (now (out .exit)) r ⌝ }
+{
+    let c0 = cells[0];
+    let c1 = cells[1];
+    let c2 = cells[2];
+    let c3 = cells[3];
+    let xs = [k, t as u16, 1, c0.value, c1.value, c2.value, c3.value];
+    text::put_row(out, at, &xs)
+}
+
+// The line of event k, of task t.
+pub fn put_answer(out: &mut [u8], at: usize, k: u16, t: u8, answer: Answer, cells: Cells) -> usize
+    ensures { λ r. ⌜ Put (now (out .entry)) at (answerLine k t answer cells) (now (out .exit)) r ⌝ }
+{
+    match answer {
+        Answer::Accepted => put_bare(out, at, k, t, 0),
+        Answer::Snapshot => put_snapshot(out, at, k, t, cells),
+        Answer::Finalized => put_bare(out, at, k, t, 2),
+        Answer::Fail => put_bare(out, at, k, t, 3),
+        Answer::Yes => put_bare(out, at, k, t, 4),
+        Answer::No => put_bare(out, at, k, t, 5),
+        Answer::Value { cell } => put_value(out, at, k, t, cell.value),
+        Answer::Refused { why } => put_bare(out, at, k, t, answers::refusal_number(why)),
+    }
+}
+
+fn bit(b: bool) -> u16
+    ensures { λ o. ⌜ o ≡ bit b ⌝ }
+{
+    if b { 1 } else { 0 }
+}
+
+// The line of record r.
+pub fn put_record(out: &mut [u8], at: usize, r: u8, rec: Record) -> usize
+    ensures { λ o. ⌜ Put (now (out .entry)) at (recordLine r rec) (now (out .exit)) o ⌝ }
+{
+    let cells = rec.cells;
+    let c0 = cells[0];
+    let c1 = cells[1];
+    let c2 = cells[2];
+    let c3 = cells[3];
+    let mark = bit(rec.mark);
+    let xs = [r as u16, mark, c0.value, c1.value, c2.value, c3.value];
+    text::put_lettered(out, at, b'R', &xs)
+}
+
+// The last line.
+pub fn put_tally(out: &mut [u8], at: usize, tally: Tally) -> usize
+    ensures { λ r. ⌜ Put (now (out .entry)) at (tallyLine tally) (now (out .exit)) r ⌝ }
+{
+    let xs = [tally.made, tally.no, tally.fail];
+    text::put_lettered(out, at, b'T', &xs)
+}
+
+// The line of a refused sheet.
+pub fn put_refusal(out: &mut [u8], at: usize, why: Refusal) -> usize
+    ensures { λ r. ⌜ Put (now (out .entry)) at (refusalLine why) (now (out .exit)) r ⌝ }
+{
+    let xs = [answers::refusal_number(why) as u16];
+    text::put_lettered(out, at, b'X', &xs)
+}
