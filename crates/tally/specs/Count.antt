@@ -47,61 +47,37 @@ operationOf (H8 u after) = helpingOf after
 operationOf (AtVlx n i) = Vlx
 operationOf (AtRead r f) = Read
 
--- whether an SCX's answer is yes
+-- one of four by the answer: yes, no, Fail, any other
+abbrev pub byAnswer : {A : Type 0} → A → A → A → A → Answer → A
+byAnswer y n f other Accepted = other
+byAnswer y n f other Snapshot = other
+byAnswer y n f other Finalized = other
+byAnswer y n f other Fail = f
+byAnswer y n f other Yes = y
+byAnswer y n f other No = n
+byAnswer y n f other (Value cell) = other
+byAnswer y n f other (Refused why) = other
+
+-- one of three by the operation: SCX, LLX, any other
+abbrev pub byOperation : {A : Type 0} → A → A → A → Operation → A
+byOperation scx llx other None = other
+byOperation scx llx other Llx = llx
+byOperation scx llx other Scx = scx
+byOperation scx llx other Vlx = other
+byOperation scx llx other Read = other
+
 abbrev pub isYes : Answer → Bool
-isYes Accepted = false
-isYes Snapshot = false
-isYes Finalized = false
-isYes Fail = false
-isYes Yes = true
-isYes No = false
-isYes (Value cell) = false
-isYes (Refused why) = false
+isYes = byAnswer true false false false
 
-abbrev pub isNoAnswer : Answer → Bool
-isNoAnswer Accepted = false
-isNoAnswer Snapshot = false
-isNoAnswer Finalized = false
-isNoAnswer Fail = false
-isNoAnswer Yes = false
-isNoAnswer No = true
-isNoAnswer (Value cell) = false
-isNoAnswer (Refused why) = false
-
-abbrev pub isFailAnswer : Answer → Bool
-isFailAnswer Accepted = false
-isFailAnswer Snapshot = false
-isFailAnswer Finalized = false
-isFailAnswer Fail = true
-isFailAnswer Yes = false
-isFailAnswer No = false
-isFailAnswer (Value cell) = false
-isFailAnswer (Refused why) = false
-
--- b of an SCX's answer, false of any other
-abbrev pub ofScx : Operation → Bool → Bool
-ofScx None b = false
-ofScx Llx b = false
-ofScx Scx b = b
-ofScx Vlx b = false
-ofScx Read b = false
-
-abbrev pub ofLlx : Operation → Bool → Bool
-ofLlx None b = false
-ofLlx Llx b = b
-ofLlx Scx b = false
-ofLlx Vlx b = false
-ofLlx Read b = false
-
--- an SCX answered yes; an SCX answered no; an LLX answered Fail
+-- "SCX that answered yes"; "SCX that answered no"; "LLX that answered Fail"
 abbrev pub isMade : Told → Bool
-isMade x = ofScx (x .operation) (isYes (x .answer))
+isMade x = byOperation (isYes (x .answer)) false false (x .operation)
 
 abbrev pub isNo : Told → Bool
-isNo x = ofScx (x .operation) (isNoAnswer (x .answer))
+isNo x = byOperation (byAnswer false true false false (x .answer)) false false (x .operation)
 
 abbrev pub isFail : Told → Bool
-isFail x = ofLlx (x .operation) (isFailAnswer (x .answer))
+isFail x = byOperation false (byAnswer false false true false (x .answer)) false (x .operation)
 
 -- how many of a list
 unfoldable pub counts : (Told → Bool) → List Told → ℕ
