@@ -2,7 +2,7 @@
 ghost use mathlib.Core.Path.{_≡_};
 ghost use mathlib.Core.List.{[], _∷_, map};
 ghost use Rattle.text.specs.Put.{Put};
-ghost use Rattle.text.specs.Text.{row};
+ghost use Rattle.text.specs.Text.{row, lettered};
 ghost use Rattle.lines.specs.Lines.{bit, answerLine, recordLine, tallyLine, refusalLine};
 use table::Answer;
 use table::Cells;
@@ -60,18 +60,24 @@ fn bit(b: bool) -> u16
     if b { 1 } else { 0 }
 }
 
+fn put_cells(out: &mut [u8], at: usize, r: u8, mark: bool, cells: Cells) -> usize
+    ensures { λ o. ⌜ Put (now (out .entry)) at (lettered 82 (r ∷ bit mark ∷ map (λ c. c .value) cells)) (now (out .exit)) o ⌝ }
+{
+    let c0 = cells[0];
+    let c1 = cells[1];
+    let c2 = cells[2];
+    let c3 = cells[3];
+    let b = bit(mark);
+    let xs = [r as u16, b, c0.value, c1.value, c2.value, c3.value];
+    text::put_lettered(out, at, b'R', &xs)
+}
+
 // The line of record r.
 pub fn put_record(out: &mut [u8], at: usize, r: u8, rec: Record) -> usize
     ensures { λ o. ⌜ Put (now (out .entry)) at (recordLine r rec) (now (out .exit)) o ⌝ }
 {
     let cells = rec.cells;
-    let c0 = cells[0];
-    let c1 = cells[1];
-    let c2 = cells[2];
-    let c3 = cells[3];
-    let mark = bit(rec.mark);
-    let xs = [r as u16, mark, c0.value, c1.value, c2.value, c3.value];
-    text::put_lettered(out, at, b'R', &xs)
+    put_cells(out, at, r, rec.mark, cells)
 }
 
 // The last line.

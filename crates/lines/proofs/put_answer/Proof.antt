@@ -1,3 +1,4 @@
+use Rattle.lines.specs.Lines.{answerLine}
 use borrow.Author.Needs.{needs}
 use Rattle.lines.proofs.put_answer.Statement.{statement}
 use Rattle.lines.proofs.put_answer.Tie as tie
@@ -82,6 +83,7 @@ same-length c = search needs
 
 -- src/lib.rt:42:1
 returns : tie.Need-returns
+unfolding answerLine
 returns c = simp (c .before .before .before .before .enum-told .given .1) (c .before .before .put-bare .ensures)
 
 -- src/lib.rt:42:1
@@ -90,6 +92,7 @@ same-length-2 c = search needs
 
 -- src/lib.rt:42:1
 returns-2 : tie.Need-returns-2
+unfolding answerLine
 returns-2 c = simp (c .before .before .before .before .enum-told2 .given .1) (c .before .before .put-snapshot .ensures)
 
 -- src/lib.rt:42:1
@@ -98,6 +101,7 @@ same-length-3 c = search needs
 
 -- src/lib.rt:42:1
 returns-3 : tie.Need-returns-3
+unfolding answerLine
 returns-3 c = simp (c .before .before .before .before .enum-told3 .given .1) (c .before .before .put-bare2 .ensures)
 
 -- src/lib.rt:42:1
@@ -106,6 +110,7 @@ same-length-4 c = search needs
 
 -- src/lib.rt:42:1
 returns-4 : tie.Need-returns-4
+unfolding answerLine
 returns-4 c = simp (c .before .before .before .before .enum-told4 .given .1) (c .before .before .put-bare3 .ensures)
 
 -- src/lib.rt:42:1
@@ -114,6 +119,7 @@ same-length-5 c = search needs
 
 -- src/lib.rt:42:1
 returns-5 : tie.Need-returns-5
+unfolding answerLine
 returns-5 c = simp (c .before .before .before .before .enum-told5 .given .1) (c .before .before .put-bare4 .ensures)
 
 -- src/lib.rt:42:1
@@ -122,6 +128,7 @@ same-length-6 c = search needs
 
 -- src/lib.rt:42:1
 returns-6 : tie.Need-returns-6
+unfolding answerLine
 returns-6 c = simp (c .before .before .before .before .enum-told6 .given .1) (c .before .before .put-bare5 .ensures)
 
 -- src/lib.rt:42:1
@@ -130,6 +137,7 @@ same-length-7 c = search needs
 
 -- src/lib.rt:42:1
 returns-7 : tie.Need-returns-7
+unfolding answerLine
 returns-7 c = simp (c .before .before .before .before .before .answer .given .1) (c .before .before .put-value .ensures)
 
 -- src/lib.rt:42:1
@@ -138,6 +146,7 @@ same-length-8 c = search needs
 
 -- src/lib.rt:42:1
 returns-8 : tie.Need-returns-8
+unfolding answerLine
 returns-8 c = simp (c .before .before .before .before .before .before .answer2 .given .1) (simp (c .before .before .before .refusal-number .ensures) at (c .before .before .put-bare6 .ensures))
 
 pub put-answer-spec : {M : Type 1} → statement M

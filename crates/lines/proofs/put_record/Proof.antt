@@ -1,57 +1,23 @@
+use Rattle.lines.specs.Lines.{recordLine}
 use borrow.Author.Needs.{needs}
 use Rattle.lines.proofs.put_record.Statement.{statement}
 use Rattle.lines.proofs.put_record.Tie as tie
 use Rattle.lines.proofs.put_record.Reads as reads
 use Rattle.lines.proofs.put_record.Lts as lts
-use Rattle.lines.proofs.bit.Reads as bit-reads
-use Rattle.text.proofs.put_lettered.Reads as put-lettered-reads
+use Rattle.lines.proofs.put_cells.Reads as put-cells-reads
 
--- src/lib.rt:68:14
-array-copy-out-c0 : tie.Need-array-copy-out-c0
-array-copy-out-c0 c = search needs
+-- src/lib.rt:80:5
+put-cells-requires : tie.Need-put-cells-requires
+put-cells-requires c κs = search needs
 
--- src/lib.rt:69:14
-array-copy-out-c1 : tie.Need-array-copy-out-c1
-array-copy-out-c1 c = search needs
-
--- src/lib.rt:70:14
-array-copy-out-c2 : tie.Need-array-copy-out-c2
-array-copy-out-c2 c = search needs
-
--- src/lib.rt:71:14
-array-copy-out-c3 : tie.Need-array-copy-out-c3
-array-copy-out-c3 c = search needs
-
--- src/lib.rt:72:9
-bit-requires : tie.Need-bit-requires
-bit-requires c κs = search needs
-
--- src/lib.rt:74:39
-slice-aggregate-put-lettered : tie.Need-slice-aggregate-put-lettered
-slice-aggregate-put-lettered c = search needs
-
--- src/lib.rt:74:5
-put-lettered-requires : tie.Need-put-lettered-requires
-put-lettered-requires c κs = search needs
-
--- src/lib.rt:64:1
+-- src/lib.rt:76:1
 same-length : tie.Need-same-length
 same-length c = search needs
 
--- src/lib.rt:64:1
+-- src/lib.rt:76:1
 returns : tie.Need-returns
-returns c = simp (c .before .before .before .before .before .bit .ensures) at (c .before .before .put-lettered .ensures)
+unfolding recordLine
+returns c = c .before .before .put-cells .ensures
 
 pub put-record-spec : {M : Type 1} → statement M
-put-record-spec =
-    tie.close
-    (tie.spec
-    array-copy-out-c0
-    array-copy-out-c1
-    array-copy-out-c2
-    array-copy-out-c3
-    bit-requires
-    slice-aggregate-put-lettered
-    put-lettered-requires
-    same-length
-    returns)
+put-record-spec = tie.close (tie.spec put-cells-requires same-length returns)

@@ -1,3 +1,4 @@
+use Rattle.lines.specs.Lines.{refusalLine}
 use borrow.Author.Needs.{needs}
 use Rattle.lines.proofs.put_refusal.Statement.{statement}
 use Rattle.lines.proofs.put_refusal.Tie as tie
@@ -28,6 +29,7 @@ same-length c = search needs
 
 -- src/lib.rt:86:1
 returns : tie.Need-returns
+unfolding refusalLine
 returns c = simp (c .before .before .before .before .before .refusal-number .ensures) at (c .before .before .put-lettered .ensures)
 
 pub put-refusal-spec : {M : Type 1} → statement M

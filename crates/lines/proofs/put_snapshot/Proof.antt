@@ -1,3 +1,4 @@
+use Rattle.lines.proofs.Glue.{four-values}
 use borrow.Author.Needs.{needs}
 use Rattle.lines.proofs.put_snapshot.Statement.{statement}
 use Rattle.lines.proofs.put_snapshot.Tie as tie
@@ -35,7 +36,7 @@ same-length c = search needs
 
 -- src/lib.rt:30:1
 returns : tie.Need-returns
-returns c = c .before .before .put-row .ensures
+returns c = rw (← four-values (c .before .before .before .before .before .before .before .before .before .before .args .t5) (search needs)) (c .before .before .put-row .ensures)
 
 pub put-snapshot-spec : {M : Type 1} → statement M
 put-snapshot-spec =

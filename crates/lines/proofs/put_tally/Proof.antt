@@ -1,3 +1,4 @@
+use Rattle.lines.specs.Lines.{tallyLine}
 use borrow.Author.Needs.{needs}
 use Rattle.lines.proofs.put_tally.Statement.{statement}
 use Rattle.lines.proofs.put_tally.Tie as tie
@@ -19,6 +20,7 @@ same-length c = search needs
 
 -- src/lib.rt:78:1
 returns : tie.Need-returns
+unfolding tallyLine
 returns c = c .before .before .put-lettered .ensures
 
 pub put-tally-spec : {M : Type 1} → statement M
