@@ -1,6 +1,8 @@
 // Run sheets: the reader and the writer. A sheet is lent as bytes, and its parts are found by numbers.
 use table::Refusal;
 
+mod events;
+
 // The numbers of the trailer, and where the initial values stand.
 pub struct Layout {
     pub p: u8,

@@ -1,0 +1,28 @@
+-- `sheet::events::event_fine`: the chain of its two tests.
+use Prim.Native.Nat.{ℕ}
+use mathlib.Core.Path.{_∙_, ap}
+use lib.Dec.{eqb}
+use Rattle.lists.proofs.Laws.{both-yes, both-no}
+use Rattle.sheet.proofs.Twelve.{by-sum}
+use borrow.Author.Needs.{needs}
+use Rattle.sheet.proofs.events.event_fine.Statement.{statement}
+use Rattle.sheet.proofs.events.event_fine.Tie as tie
+
+array-read-within : tie.Need-array-read-within
+array-read-within c = search needs
+
+within-requires : tie.Need-within-requires
+within-requires c κs = search needs
+
+unused-requires : tie.Need-unused-requires
+unused-requires c κs = search needs
+
+returns : tie.Need-returns
+returns c = both-yes (c .before .before .within .ensures) (c .before .if1 .taken) (ap (λ (k : ℕ). eqb k 0) (c .unused .ensures)) ∙ by-sum _
+
+returns-2 : tie.Need-returns-2
+returns-2 c = both-no _ (c .before .within .ensures) (c .if1 .left) ∙ by-sum _
+
+pub event-fine-spec : {M : Type 1} → statement M
+event-fine-spec =
+    tie.close (tie.spec array-read-within within-requires unused-requires returns returns-2)
