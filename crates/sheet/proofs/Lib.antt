@@ -1,2 +1,5 @@
+pub mod Bytes
+pub mod Refusals
+pub mod Stored
 pub mod Unused
-pub mod Twelve
+pub mod Writing

@@ -94,12 +94,14 @@ abbrev pub trailer : List ℕ → List ℕ
 trailer s = drop (length s - trailerSize) s
 
 abbrev pub distance : List ℕ → ℕ
-distance s = pair (trailer s) 6
+distance t = pair t 6
+
+-- what a trailer at the end of some bytes says
+abbrev pub layoutBy : List ℕ → ℕ → Layout
+layoutBy t size = record { p = byte t 2; n = byte t 3; events = pair t 4; from = size - trailerSize - distance t }
 
 unfoldable pub layoutOf : List ℕ → Layout
-layoutOf s =
-    let t = trailer s in
-    record { p = byte t 2; n = byte t 3; events = pair t 4; from = length s - trailerSize - distance s }
+layoutOf s = layoutBy (trailer s) (length s)
 
 -- the bytes of the initial values of n records and of the events
 abbrev pub partsSize : ℕ → ℕ → ℕ
@@ -111,13 +113,27 @@ valuesPart s at = take (recordSize * at .n) (drop (at .from) s)
 unfoldable pub eventsPart : List ℕ → Layout → List ℕ
 eventsPart s at = take (eventSize * at .events) (drop (at .from + recordSize * at .n) s)
 
--- what a sheet must keep, in the order of the refusals
+-- what a sheet must keep: its size, the tag, the ranges of P, N and the event count, the distance, which "must be 8N + 12E" and may not
+-- reach before the first byte
+abbrev pub sizeFine : ℕ → Claim
+sizeFine size = less 7 size & upTo maxSheet size
+
+abbrev pub tagFine : List ℕ → Claim
+tagFine t = holds (eqb (byte t 0) 82) & holds (eqb (byte t 1) 83)
+
+abbrev pub countsFine : ℕ → ℕ → ℕ → Claim
+countsFine p n events = within maxTasks p & within maxRecords n & upTo maxEvents events
+
+abbrev pub distanceFine : ℕ → ℕ → ℕ → ℕ → Claim
+distanceFine back n events end = holds (eqb back (partsSize n events)) & upTo end back
+
+-- in the order of the refusals
 abbrev pub sheetRules : List ℕ → Layout → List Rule
 sheetRules s at =
-    unless SheetSize (less 7 (length s) & upTo maxSheet (length s))
-    ∷ unless SheetTag (holds (eqb (byte (trailer s) 0) 82) & holds (eqb (byte (trailer s) 1) 83))
-    ∷ unless Counts (within maxTasks (at .p) & within maxRecords (at .n) & upTo maxEvents (at .events))
-    ∷ unless Distance (holds (eqb (distance s) (partsSize (at .n) (at .events))) & upTo (length s - trailerSize) (distance s))
+    unless SheetSize (sizeFine (length s))
+    ∷ unless SheetTag (tagFine (trailer s))
+    ∷ unless Counts (countsFine (at .p) (at .n) (at .events))
+    ∷ unless Distance (distanceFine (distance (trailer s)) (at .n) (at .events) (length s - trailerSize))
     ∷ unless EventKind (holds (eventsFine (eventsPart s at) (at .events)))
     ∷ []
 
@@ -166,15 +182,15 @@ bytesOf x = sheetBytes (x .p) (x .n) (length (x .events) / eventSize) (x .values
 abbrev pub sheetSize : ℕ → ℕ → ℕ
 sheetSize n count = partsSize n count + trailerSize
 
--- what the writer must be given, in the order of the refusals; room is the length of the lent buffer
+-- what the writer must be given: "other than 4N values or 12E event bytes" is refused as the counts are
+abbrev pub givenFine : ℕ → ℕ → ℕ → ℕ → ℕ → Claim
+givenFine p n count values events =
+    countsFine p n count & holds (eqb values (maxFields * n)) & holds (eqb events (eventSize * count))
+
+-- in the order of the refusals; room is the length of the lent buffer
 abbrev pub writerRules : ℕ → ℕ → ℕ → List ℕ → List ℕ → ℕ → List Rule
 writerRules p n count values events room =
-    unless Counts
-    (within maxTasks p
-    & within maxRecords n
-    & upTo maxEvents count
-    & holds (eqb (length values) (maxFields * n))
-    & holds (eqb (length events) (eventSize * count)))
+    unless Counts (givenFine p n count (length values) (length events))
     ∷ unless EventKind (holds (eventsFine events count))
     ∷ unless BufferShort (upTo room (sheetSize n count))
     ∷ []

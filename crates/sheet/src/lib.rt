@@ -1,7 +1,22 @@
 // Run sheets: the reader and the writer. A sheet is lent as bytes, and its parts are found by numbers.
+ghost use mathlib.Core.Path.{_≡_};
+ghost use lib.ListN.{length};
+ghost use Rattle.rules.specs.Claim.{test};
+ghost use Rattle.sheet.specs.Layout.{sheetOf, valuesIn, givenFine, writtenOf, bufferOf};
+use events::byte_at;
+use events::events_fine;
+use events::pair;
+use table::Machine;
 use table::Refusal;
+use trailer::RECORD;
+use trailer::TRAILER;
 
 mod events;
+mod put;
+mod trailer;
+
+// As many values as the largest table has.
+const VALUES: usize = Machine::RECORDS * Machine::FIELDS;
 
 // The numbers of the trailer, and where the initial values stand.
 pub struct Layout {
@@ -27,4 +42,90 @@ pub enum Written {
 pub struct Reader<'a> {
     pub events: &'a [u8],
     pub next: u16,
+}
+
+// The layout of any bytes, or the first of 20 to 24.
+pub fn layout_of(s: &[u8]) -> Sheet
+    ensures { λ o. ⌜ o ≡ sheetOf (now (s .entry)) ⌝ }
+{
+    let size = s.len();
+    if !trailer::size_fine(size) {
+        return Sheet::Refused {
+            why: Refusal::SheetSize,
+        };
+    }
+    let t = trailer::trailer(s);
+    if !trailer::tag_fine(t) {
+        return Sheet::Refused {
+            why: Refusal::SheetTag,
+        };
+    }
+    let at = trailer::layout_by(t, size);
+    let n = at.n;
+    let events = at.events;
+    if !trailer::counts_fine(at.p, n, events) {
+        return Sheet::Refused {
+            why: Refusal::Counts,
+        };
+    }
+    let end = size - TRAILER;
+    if !trailer::distance_fine(trailer::distance(t), n, events, end) {
+        return Sheet::Refused {
+            why: Refusal::Distance,
+        };
+    }
+    let from = at.from;
+    let first = from + RECORD * (n as usize);
+    if !events_fine(&s[first..end], events) {
+        return Sheet::Refused {
+            why: Refusal::EventKind,
+        };
+    }
+    Sheet::Read { at }
+}
+
+// The numbers of a part, low byte first; past its end the bytes count as 0.
+pub fn values(part: &[u8]) -> [u16; VALUES]
+    ensures { λ o. ⌜ o ≡ valuesIn (now (part .entry)) ⌝ }
+{
+    let mut values = [0; VALUES];
+    let mut i: usize = 0;
+    while i < VALUES {
+        values[i] = pair(byte_at(part, 2 * i), byte_at(part, 2 * i + 1));
+        i += 1;
+    }
+    values
+}
+
+// P, N and the count in range, 4N values and 12E event bytes.
+fn given_fine(p: u8, n: u8, count: u16, values: usize, events: usize) -> bool
+    ensures { λ o. ⌜ o ≡ test 0 (givenFine p n count values events) ⌝ }
+{
+    trailer::counts_fine(p, n, count)
+        && (values == Machine::FIELDS * (n as usize) && events == events::EVENT * (count as usize))
+}
+
+// A sheet at the front of the buffer, or the first of 22, 24 and 25 and the buffer as it was.
+pub fn write(p: u8, n: u8, count: u16, values: &[u16], events: &[u8], out: &mut [u8]) -> Written
+    ensures { λ o. ⌜ (o ≡ writtenOf p n count (now (values .entry)) (now (events .entry)) (length (now (out .entry)))) × (now (out .exit) ≡ bufferOf p n count (now (values .entry)) (now (events .entry)) (now (out .entry))) ⌝ }
+{
+    if !given_fine(p, n, count, values.len(), events.len()) {
+        return Written::Refused {
+            why: Refusal::Counts,
+        };
+    }
+    if !events_fine(events, count) {
+        return Written::Refused {
+            why: Refusal::EventKind,
+        };
+    }
+    let length = trailer::parts_size(n, count) + TRAILER;
+    if length > out.len() {
+        return Written::Refused {
+            why: Refusal::BufferShort,
+        };
+    }
+    let last = trailer::trailer_bytes(p, n, count);
+    put::put_sheet(out, values, events, &last);
+    Written::Sheet { length }
 }

@@ -1,7 +1,7 @@
 -- `sheet::events::event_at`: the call that the event's bytes say.
 use mathlib.Core.Path.{_∙_, ap}
 use Rattle.sheet.specs.Layout.{callOf, eventAt}
-use Rattle.sheet.proofs.Twelve.{same-call}
+use Rattle.sheet.proofs.Bytes.{same-call}
 use borrow.Author.Needs.{needs}
 use Rattle.sheet.proofs.events.event_at.Statement.{statement}
 use Rattle.sheet.proofs.events.event_at.Tie as tie

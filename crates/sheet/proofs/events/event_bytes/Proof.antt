@@ -1,7 +1,7 @@
 -- `sheet::events::event_bytes`: read at once, or one by one where the bytes may end.
 use Prim.Native.Nat.{_*_}
 use mathlib.Core.Path.{_∙_}
-use Rattle.sheet.proofs.Twelve.{from-part, twelve}
+use Rattle.sheet.proofs.Bytes.{from-part, twelve}
 use borrow.Author.Needs.{needs}
 use Rattle.sheet.proofs.events.event_bytes.Statement.{statement}
 use Rattle.sheet.proofs.events.event_bytes.Tie as tie

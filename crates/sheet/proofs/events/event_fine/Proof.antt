@@ -3,7 +3,7 @@ use Prim.Native.Nat.{ℕ}
 use mathlib.Core.Path.{_∙_, ap}
 use lib.Dec.{eqb}
 use Rattle.lists.proofs.Laws.{both-yes, both-no}
-use Rattle.sheet.proofs.Twelve.{by-sum}
+use Rattle.sheet.proofs.Bytes.{by-sum}
 use borrow.Author.Needs.{needs}
 use Rattle.sheet.proofs.events.event_fine.Statement.{statement}
 use Rattle.sheet.proofs.events.event_fine.Tie as tie

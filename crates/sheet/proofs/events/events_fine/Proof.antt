@@ -5,7 +5,7 @@ use mathlib.Core.Path.{_∙_, ap}
 use borrow.Author.Needs.{needs}
 use Rattle.lists.proofs.Laws.{Passed, none-yet, one-more, one-fails, all-passed, said-yes, said-no}
 use Rattle.sheet.specs.Layout.{eventFine, eventBytes, eventsFine}
-use Rattle.sheet.proofs.Twelve.{same-fine}
+use Rattle.sheet.proofs.Bytes.{same-fine}
 use Rattle.sheet.proofs.events.events_fine.Statement.{statement}
 use Rattle.sheet.proofs.events.events_fine.Tie as tie
 

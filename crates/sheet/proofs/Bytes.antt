@@ -1,4 +1,4 @@
--- An event's twelve bytes, read one by one: they say the same call, and pass the same test.
+-- Bytes read one by one: an event's twelve say the same call and pass the same test; a trailer's eight; the values of a part.
 use Prim.Native.Nat.{ℕ, _+_}
 use native.Mathlib.Nat.{add-zero}
 use mathlib.Core.Path.{_≡_, refl, sym}
@@ -22,6 +22,11 @@ pub twelve : (s : List ℕ) (j : ℕ)
     → _≡_ {A = List ℕ} (byte s j ∷ byte s (j + 1) ∷ byte s (j + 2) ∷ byte s (j + 3) ∷ byte s (j + 4) ∷ byte s (j + 5) ∷ byte s (j + 6) ∷ byte s (j + 7) ∷ byte s (j + 8) ∷ byte s (j + 9) ∷ byte s (j + 10) ∷ byte s (j + 11) ∷ []) (tabulate 12 (byte (drop j s)))
 unfolding tabulate
 twelve s j = simp (getD-drop, add-zero)
+
+pub eight : (s : List ℕ) (j : ℕ)
+    → _≡_ {A = List ℕ} (byte s j ∷ byte s (j + 1) ∷ byte s (j + 2) ∷ byte s (j + 3) ∷ byte s (j + 4) ∷ byte s (j + 5) ∷ byte s (j + 6) ∷ byte s (j + 7) ∷ []) (tabulate 8 (byte (drop j s)))
+unfolding tabulate
+eight s j = simp (getD-drop, add-zero)
 
 pub same-call : (e : List ℕ) → callOf (tabulate 12 (byte e)) ≡ callOf e
 unfolding callOf tabulate

@@ -1,0 +1,61 @@
+-- `sheet::write`: the tests in the order of the refusals; then the sheet is put.
+use native.Mathlib.Omega.{arith}
+use mathlib.Core.Path.{sym, _∙_, ap}
+use Rattle.lists.proofs.Laws.{said-yes, said-no}
+use Rattle.sheet.proofs.Writing.{refused-22, refused-24, refused-25, written, room}
+use borrow.Author.Needs.{needs}
+use Rattle.sheet.proofs.write.Statement.{statement}
+use Rattle.sheet.proofs.write.Tie as tie
+
+given-fine-requires : tie.Need-given-fine-requires
+given-fine-requires c κs = search needs
+
+returns : tie.Need-returns
+returns c = refused-22 _ _ _ _ _ _ (said-no (c .before .given-fine .ensures) (c .if1 .taken))
+
+events-fine-requires : tie.Need-events-fine-requires
+events-fine-requires c κs = search needs
+
+returns-2 : tie.Need-returns-2
+returns-2 c = refused-24 _ _ _ _ _ _ (said-yes (c .before .before .before .given-fine .ensures) (c .before .before .if1 .left)) (said-no (c .before .events-fine .ensures) (c .if2 .taken))
+
+parts-size-requires : tie.Need-parts-size-requires
+parts-size-requires c κs = search needs
+
+add-length : tie.Need-add-length
+add-length c = search needs
+
+returns-3 : tie.Need-returns-3
+returns-3 c = refused-25 _ _ _ _ _ _ (said-yes (c .before .before .before .before .before .given-fine .ensures) (c .before .before .before .before .if1 .left)) (said-yes (c .before .before .before .events-fine .ensures) (c .before .before .if2 .left)) (omega arith)
+
+trailer-bytes-requires : tie.Need-trailer-bytes-requires
+trailer-bytes-requires c κs = search needs
+
+slice-aggregate-put-sheet : tie.Need-slice-aggregate-put-sheet
+slice-aggregate-put-sheet c = search needs
+
+put-sheet-requires : tie.Need-put-sheet-requires
+put-sheet-requires c κs = let a = c .before .before .before .before .before .before .before .before .before .before .before .before .args in let h = room (a .p) (a .n) (a .count) (a .values .now) (a .events .now) (said-yes (c .before .before .before .before .before .before .before .before .given-fine .ensures) (c .before .before .before .before .before .before .before .if1 .left)) in omega arith
+
+same-length : tie.Need-same-length
+same-length c = search needs
+
+returns-4 : tie.Need-returns-4
+returns-4 c = written _ _ _ _ _ _ (said-yes (c .before .before .before .before .before .before .before .before .before .before .before .given-fine .ensures) (c .before .before .before .before .before .before .before .before .before .before .if1 .left)) (said-yes (c .before .before .before .before .before .before .before .before .before .events-fine .ensures) (c .before .before .before .before .before .before .before .before .if2 .left)) (omega arith) (omega arith) (simp (c .before .before .before .before .before .trailer-bytes .ensures) at (c .before .before .put-sheet .ensures))
+
+pub write-spec : {M : Type 1} → statement M
+write-spec =
+    tie.close
+    (tie.spec
+    given-fine-requires
+    returns
+    events-fine-requires
+    returns-2
+    parts-size-requires
+    add-length
+    returns-3
+    trailer-bytes-requires
+    slice-aggregate-put-sheet
+    put-sheet-requires
+    same-length
+    returns-4)

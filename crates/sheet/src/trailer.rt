@@ -1,0 +1,128 @@
+// The trailer: its eight bytes, the numbers that they say, and the tests of these.
+ghost use mathlib.Core.Path.{_≡_};
+ghost use Prim.Native.Nat.{_+_, _-_, _*_, _≤_};
+ghost use lib.ListN.{length};
+ghost use Rattle.table.specs.Table.{tabulate};
+ghost use Rattle.rules.specs.Claim.{test};
+ghost use Rattle.sheet.specs.Layout.{byte, trailer, layoutBy, partsSize, trailerBytes};
+ghost use Rattle.sheet.specs.Layout as spec;
+use crate::Layout;
+use crate::events::EVENT;
+use crate::events::pair;
+use table::Machine;
+
+// The bytes of a trailer, of a record's initial values, and the most that a sheet has.
+pub const TRAILER: usize = 8;
+
+pub const RECORD: usize = 2 * Machine::FIELDS;
+
+const SHEET: usize = 65_000;
+
+const EVENTS: usize = 5_000;
+
+const FIRST_TAG: u8 = 0x52;
+
+const SECOND_TAG: u8 = 0x53;
+
+pub type Trailer = [u8; TRAILER];
+
+fn up_to(most: usize, k: usize) -> bool
+    ensures { λ o. ⌜ o ≡ test 0 (spec.upTo most k) ⌝ }
+{
+    k <= most
+}
+
+pub fn size_fine(size: usize) -> bool
+    ensures { λ o. ⌜ o ≡ test 0 (spec.sizeFine size) ⌝ }
+{
+    TRAILER <= size && up_to(SHEET, size)
+}
+
+// The last eight bytes.
+pub fn trailer(s: &[u8]) -> Trailer
+    requires { ⌜ 8 ≤ length (now s) ⌝ }
+    ensures { λ o. ⌜ o ≡ tabulate 8 (byte (trailer (now (s .entry)))) ⌝ }
+{
+    let j = s.len() - TRAILER;
+    [
+        s[j],
+        s[j + 1],
+        s[j + 2],
+        s[j + 3],
+        s[j + 4],
+        s[j + 5],
+        s[j + 6],
+        s[j + 7],
+    ]
+}
+
+pub fn tag_fine(t: Trailer) -> bool
+    ensures { λ o. ⌜ o ≡ test 0 (spec.tagFine t) ⌝ }
+{
+    t[0] == FIRST_TAG && t[1] == SECOND_TAG
+}
+
+pub fn counts_fine(p: u8, n: u8, events: u16) -> bool
+    ensures { λ o. ⌜ o ≡ test 0 (spec.countsFine p n events) ⌝ }
+{
+    lists::within(Machine::TASKS, p)
+        && (lists::within(Machine::RECORDS, n) && up_to(EVENTS, events as usize))
+}
+
+// The bytes between the heading and the trailer.
+pub fn parts_size(n: u8, events: u16) -> usize
+    ensures { λ o. ⌜ (o ≡ partsSize n events) × (o ≤ 788460) ⌝ }
+{
+    RECORD * (n as usize) + EVENT * (events as usize)
+}
+
+// The distance back from the trailer, which starts at `end`.
+pub fn distance_fine(distance: u16, n: u8, events: u16, end: usize) -> bool
+    ensures { λ o. ⌜ o ≡ test 0 (spec.distanceFine distance n events end) ⌝ }
+{
+    let d = distance as usize;
+    d == parts_size(n, events) && up_to(end, d)
+}
+
+pub fn distance(t: Trailer) -> u16
+    ensures { λ o. ⌜ o ≡ byte t 6 + 256 * byte t 7 ⌝ }
+{
+    pair(t[6], t[7])
+}
+
+// a - b, 0 where b is the larger.
+fn minus(a: usize, b: usize) -> usize
+    ensures { λ o. ⌜ o ≡ a - b ⌝ }
+{
+    if b <= a { a - b } else { 0 }
+}
+
+// What a trailer at the end of `size` bytes says.
+pub fn layout_by(t: Trailer, size: usize) -> Layout
+    ensures { λ o. ⌜ o ≡ layoutBy t size ⌝ }
+{
+    let end = minus(size, TRAILER);
+    Layout {
+        p: t[2],
+        n: t[3],
+        events: pair(t[4], t[5]),
+        from: minus(end, distance(t) as usize),
+    }
+}
+
+// The trailer to be written.
+pub fn trailer_bytes(p: u8, n: u8, count: u16) -> Trailer
+    ensures { λ o. ⌜ o ≡ trailerBytes p n count ⌝ }
+{
+    let d = parts_size(n, count);
+    [
+        FIRST_TAG,
+        SECOND_TAG,
+        p,
+        n,
+        (count % 256) as u8,
+        (count / 256 % 256) as u8,
+        (d % 256) as u8,
+        (d / 256 % 256) as u8,
+    ]
+}
