@@ -1,11 +1,14 @@
 // Run sheets: the reader and the writer. A sheet is lent as bytes, and its parts are found by numbers.
 ghost use mathlib.Core.Path.{_≡_};
+ghost use Prim.Native.Nat.{_+_, _%_};
 ghost use lib.ListN.{length};
 ghost use Rattle.rules.specs.Claim.{test};
-ghost use Rattle.sheet.specs.Layout.{sheetOf, valuesIn, givenFine, writtenOf, bufferOf};
+ghost use Rattle.sheet.specs.Layout.{sheetOf, valuesIn, eventAt, givenFine, writtenOf, bufferOf};
 use events::byte_at;
+use events::event_at;
 use events::events_fine;
 use events::pair;
+use table::Call;
 use table::Machine;
 use table::Refusal;
 use trailer::RECORD;
@@ -95,6 +98,37 @@ pub fn values(part: &[u8]) -> [u16; VALUES]
         i += 1;
     }
     values
+}
+
+// A reader of event bytes, at the event `next`.
+pub fn at<'a>(events: &'a [u8], next: u16) -> Reader<'a>
+    ensures { λ r. ⌜ (r .events ≡ events .entry) × (r .next ≡ next) ⌝ }
+{
+    Reader { events, next }
+}
+
+// The event that is next.
+pub fn next_event<'a>(r: Reader<'a>) -> Call
+    ensures { λ o. ⌜ o ≡ eventAt (now (r .entry .events)) (r .entry .next) ⌝ }
+{
+    event_at(r.events, r.next)
+}
+
+// The reader at the event after it; after event 65,535 comes event 0.
+pub fn advanced<'a>(r: Reader<'a>) -> Reader<'a>
+    ensures { λ q. ⌜ (q .events ≡ r .entry .events) × (q .next ≡ (r .entry .next + 1) % 65536) ⌝ }
+{
+    Reader {
+        events: r.events,
+        next: std::num::wrapping_add_u16(r.next, 1),
+    }
+}
+
+// Event i: the one door for callers that hold no reader.
+pub fn event(events: &[u8], i: u16) -> Call
+    ensures { λ o. ⌜ o ≡ eventAt (now (events .entry)) i ⌝ }
+{
+    next_event(at(events, i))
 }
 
 // P, N and the count in range, 4N values and 12E event bytes.
