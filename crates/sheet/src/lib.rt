@@ -114,13 +114,20 @@ pub fn next_event<'a>(r: Reader<'a>) -> Call
     event_at(r.events, r.next)
 }
 
-// The reader at the event after it; after event 65,535 comes event 0.
+// After event 65,535 comes event 0.
+fn following(i: u16) -> u16
+    ensures { λ o. ⌜ o ≡ (i + 1) % 65536 ⌝ }
+{
+    std::num::wrapping_add_u16(i, 1)
+}
+
+// The reader at the event that follows.
 pub fn advanced<'a>(r: Reader<'a>) -> Reader<'a>
     ensures { λ q. ⌜ (q .events ≡ r .entry .events) × (q .next ≡ (r .entry .next + 1) % 65536) ⌝ }
 {
     Reader {
         events: r.events,
-        next: std::num::wrapping_add_u16(r.next, 1),
+        next: following(r.next),
     }
 }
 
