@@ -1,0 +1,11 @@
+//! The machine of document 01 written from that document alone, and what is needed to compare another program with it.
+
+pub mod form;
+pub mod help;
+pub mod random;
+pub mod runner;
+pub mod sheet;
+pub mod start;
+pub mod step;
+pub mod table;
+pub mod watch;
