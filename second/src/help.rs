@@ -45,6 +45,9 @@ impl Machine {
             return Help::H2 { i };
         }
         self.record(r).info = job.u;
+        if self.state(job.u) != State::InProgress {
+            watch.seen("H1: took hold for an ended change");
+        }
         let own = matches!(job.whose, Whose::Own);
         watch.seen(if own { "H1: took hold, own" } else { "H1: took hold, helping" });
         next_hold(i, n, watch)
@@ -61,6 +64,9 @@ impl Machine {
         let change = self.change(job.u);
         watch.seen(if change.all_frozen { "H5: was set" } else { "H5: sets" });
         change.all_frozen = true;
+        if change.state == State::Aborted {
+            watch.seen("H5: after Aborted");
+        }
         match next_mark(change.closes, 0) {
             Some(i) if !watch.wrong(Flaw::MarksAfterH7) => {
                 watch.seen("H5: to H6");
@@ -76,7 +82,12 @@ impl Machine {
     fn at_h6<W: Watch>(&mut self, job: Job, i: u8, watch: &mut W) -> Help {
         let change = &self.changes[usize::from(job.u)];
         let (r, next) = (change.list[usize::from(i)], next_mark(change.closes, i + 1));
-        watch.seen(if self.record(r).mark { "H6: was marked" } else { "H6: marks" });
+        let ended = change.state != State::InProgress;
+        watch.seen(match (self.record(r).mark, ended) {
+            (true, _) => "H6: was marked",
+            (false, false) => "H6: marks",
+            (false, true) => "H6: marks for an ended change",
+        });
         self.record(r).mark = true;
         watch.seen(if next.is_some() { "H6: more" } else { "H6: last" });
         match next {
@@ -94,7 +105,7 @@ impl Machine {
         if same {
             cell.value = change.new;
             cell.stamp = job.u;
-            watch.seen("H7: wrote");
+            watch.seen(by_state(change.state, ["H7: wrote", "H7: wrote after Committed", "H7: wrote after Aborted"]));
         } else if cell.stamp == job.u {
             watch.seen("H7: did not write, U's own value");
         } else {

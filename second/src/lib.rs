@@ -1,11 +1,16 @@
 //! The machine of document 01 written from that document alone, and what is needed to compare another program with it.
 
+pub mod cover;
+pub mod damage;
 pub mod form;
+pub mod generate;
 pub mod help;
+pub mod list;
 pub mod random;
 pub mod runner;
 pub mod sheet;
 pub mod start;
 pub mod step;
+pub mod style;
 pub mod table;
 pub mod watch;

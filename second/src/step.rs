@@ -74,7 +74,7 @@ impl Machine {
             Llx::L7 { m1, a } => return self.at_l7(r, m1, a, watch),
             Llx::L8 { m1, a } => return self.at_l8(r, m1, a, watch),
             Llx::L9 => {
-                watch.seen("L9");
+                watch.seen(if self.info(r) == 0 { "L9: b is 0" } else { "L9" });
                 Llx::L10 { b: self.info(r) }
             }
             Llx::L10 { b } => {
