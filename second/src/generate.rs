@@ -2,9 +2,9 @@
 
 use crate::damage;
 use crate::random::Random;
-use crate::sheet::{Draft, Event, Write, MOST_BYTES};
+use crate::sheet::{Bytes, Draft, Event, Write, MOST_BYTES};
 use crate::style::Style;
-use crate::table::{Help, Llx, Machine, Place};
+use crate::table::{Machine, Place, State};
 use crate::watch::Nobody;
 
 /// Every fourth sheet is damaged.
@@ -23,30 +23,40 @@ pub fn valid(style: Style, mut random: Random) -> Draft {
     let values: Vec<[u16; 4]> = (0..style.n).map(|_| [0; 4].map(|_: u16| value(&mut random))).collect();
     let machine = Machine::fresh(style.p as u8, values.iter().copied());
     let rests = vec![0; style.p];
-    let mut maker = Maker { style, random, machine, rests, last: 0 };
-    let mut draft = Draft { heading: Vec::new(), p: maker.style.p as u8, values, events: Vec::new() };
-    for now in 0..maker.style.events {
-        draft.events.push(maker.event(now).bytes());
+    let mut maker = Maker { style, random, machine, rests, last: 0, events: Vec::new() };
+    while maker.events.len() < maker.style.events {
+        if maker.style.scenes { maker.scene() } else { maker.turn() }
     }
+    maker.events.truncate(maker.style.events);
+    let mut draft = Draft { heading: Vec::new(), p: maker.style.p as u8, values, events: maker.events };
     let room = MOST_BYTES - draft.bytes().len();
     let heading = maker.style.heading.min(room);
     draft.heading = (0..heading).map(|_| maker.random.byte()).collect();
     draft
 }
 
-struct Maker {
-    style: Style,
-    random: Random,
-    machine: Machine,
+/// A sheet in the making.
+pub struct Maker {
+    pub style: Style,
+    pub random: Random,
+    pub machine: Machine,
     /// For each task, the event up to which it rests.
     rests: Vec<usize>,
     /// The task of the event before.
     last: usize,
+    pub events: Vec<Bytes>,
 }
 
 impl Maker {
-    /// The next event, which the machine then makes too.
-    fn event(&mut self, now: usize) -> Event {
+    /// Adds an event, which the machine makes too.
+    pub fn play(&mut self, event: Event) {
+        let _ = self.machine.call(&event, &mut Nobody);
+        self.events.push(event.bytes());
+    }
+
+    /// One event of some task.
+    fn turn(&mut self) {
+        let now = self.events.len();
         let t = self.task(now);
         let event = if self.random.chance(self.style.spoil) {
             self.spoiled(t as u8)
@@ -55,9 +65,8 @@ impl Maker {
         } else {
             self.start(t as u8)
         };
-        let _ = self.machine.call(&event, &mut Nobody);
+        self.play(event);
         self.rest(t, now);
-        event
     }
 
     /// A task that does not rest, if there is one.
@@ -72,7 +81,7 @@ impl Maker {
 
     /// Lets the task rest or stop now and then, more so at the style's trap.
     fn rest(&mut self, t: usize, now: usize) {
-        let trapped = self.style.trap == Some(name(&self.machine.tasks[t].at));
+        let trapped = self.style.traps.contains(&self.machine.tasks[t].at.name());
         let length = 1 + self.random.below(self.style.nap_length);
         if self.random.chance(self.style.stop) {
             self.rests[t] = usize::MAX;
@@ -87,41 +96,50 @@ impl Maker {
     fn start(&mut self, t: u8) -> Event {
         let mut linked: Vec<u8> = (0..self.style.n as u8).filter(|&r| self.machine.link(t, r).is_some()).collect();
         self.shuffle(&mut linked);
-        let what = self.random.below(100);
-        if what < 4 {
+        if self.random.chance(40) {
             return Event::Read { t, r: self.hot(), field: self.random.below(4) as u8 };
         }
-        if linked.is_empty() || (linked.len() < self.style.list.min(self.style.hot) && what < 60) {
-            return Event::Llx { t, r: self.hot() };
+        if linked.is_empty() || (linked.len() < self.style.list.min(self.style.hot) && self.random.chance(850)) {
+            return Event::Llx { t, r: self.unlinked(t) };
         }
-        let n = self.random.from_to(1, linked.len().min(self.style.list));
+        let longest = linked.len().min(self.style.list);
+        let n = self.random.from_to(1, longest).max(self.random.from_to(1, longest));
         let (n, list) = fit(&linked[..n]);
-        match what {
+        match self.random.below(100) {
             0..=14 => Event::Vlx { t, n, list },
             15..=89 => Event::Scx { t, n, list, write: self.write(n) },
             _ => Event::Llx { t, r: self.hot() },
         }
     }
 
-    fn shuffle(&mut self, all: &mut [u8]) {
+    pub fn shuffle(&mut self, all: &mut [u8]) {
         for i in (1..all.len()).rev() {
             let other = self.random.below(i + 1);
             all.swap(i, other);
         }
     }
 
-    /// A record, mostly one of the hot ones, and mostly an open one.
+    /// A record: one that is held just now, one of the first open ones, or any.
     fn hot(&mut self) -> u8 {
-        let pick = |maker: &mut Maker| {
-            let bound = if maker.random.chance(900) { maker.style.hot } else { maker.style.n };
-            maker.random.below(bound)
+        let machine = &self.machine;
+        let all = 0..self.style.n as u8;
+        let held = all.clone().filter(|&r| machine.state(machine.info(r)) == State::InProgress);
+        let open = all.clone().filter(|&r| !machine.records[usize::from(r)].mark).take(self.style.hot);
+        let among: Vec<u8> = match self.random.below(100) {
+            0..=24 => held.collect(),
+            25..=92 => open.collect(),
+            _ => all.collect(),
         };
-        let r = pick(self);
-        let again = self.machine.records[r].mark && self.random.chance(600);
-        (if again { pick(self) } else { r }) as u8
+        if among.is_empty() { self.random.below(self.style.n) as u8 } else { self.random.pick(&among) }
     }
 
-    fn write(&mut self, n: u8) -> Write {
+    /// Such a record, mostly one that the task has no link to.
+    fn unlinked(&mut self, t: u8) -> u8 {
+        let tries = [self.hot(), self.hot(), self.hot()];
+        tries.into_iter().find(|&r| self.machine.link(t, r).is_none()).unwrap_or(tries[0])
+    }
+
+    pub fn write(&mut self, n: u8) -> Write {
         let any = self.random.chance(30);
         Write {
             closes: if self.random.chance(self.style.close) { self.random.byte() & ((1 << n) - 1) } else { 0 },
@@ -174,48 +192,8 @@ impl Maker {
 }
 
 /// Records as a list of a sheet.
-fn fit(records: &[u8]) -> (u8, [u8; 4]) {
+pub fn fit(records: &[u8]) -> (u8, [u8; 4]) {
     let mut list = [0; 4];
     list[..records.len()].copy_from_slice(records);
     (records.len() as u8, list)
-}
-
-/// The name of a place, as the traps have it.
-fn name(at: &Place) -> &'static str {
-    match at {
-        Place::Idle => "idle",
-        Place::Vlx { .. } => "VLX",
-        Place::Read { .. } => "READ",
-        Place::Llx { at, .. } => llx_name(at),
-        Place::Help { at, .. } => help_name(at),
-    }
-}
-
-fn llx_name(at: &Llx) -> &'static str {
-    match at {
-        Llx::L1 => "L1",
-        Llx::L2 { .. } => "L2",
-        Llx::L3 { .. } => "L3",
-        Llx::L4 { .. } => "L4",
-        Llx::L5 { .. } => "L5",
-        Llx::L6 { .. } => "L6",
-        Llx::L7 { .. } => "L7",
-        Llx::L8 { .. } => "L8",
-        Llx::L9 => "L9",
-        Llx::L10 { .. } => "L10",
-        Llx::L11 => "L11",
-    }
-}
-
-fn help_name(at: &Help) -> &'static str {
-    match at {
-        Help::H1 { .. } => "H1",
-        Help::H2 { .. } => "H2",
-        Help::H3 => "H3",
-        Help::H4 => "H4",
-        Help::H5 => "H5",
-        Help::H6 { .. } => "H6",
-        Help::H7 => "H7",
-        Help::H8 => "H8",
-    }
 }

@@ -8,6 +8,7 @@ pub mod help;
 pub mod list;
 pub mod random;
 pub mod runner;
+pub mod scene;
 pub mod sheet;
 pub mod start;
 pub mod step;

@@ -208,3 +208,45 @@ impl Machine {
         }
     }
 }
+
+impl Place {
+    pub fn name(&self) -> &'static str {
+        match self {
+            Place::Idle => "idle",
+            Place::Vlx { .. } => "VLX",
+            Place::Read { .. } => "READ",
+            Place::Llx { at, .. } => llx_name(at),
+            Place::Help { job, at } => help_name(at, matches!(job.whose, Whose::Own)),
+        }
+    }
+}
+
+fn llx_name(at: &Llx) -> &'static str {
+    match at {
+        Llx::L1 => "L1",
+        Llx::L2 { .. } => "L2",
+        Llx::L3 { .. } => "L3",
+        Llx::L4 { .. } => "L4",
+        Llx::L5 { .. } => "L5",
+        Llx::L6 { .. } => "L6",
+        Llx::L7 { .. } => "L7",
+        Llx::L8 { .. } => "L8",
+        Llx::L9 => "L9",
+        Llx::L10 { .. } => "L10",
+        Llx::L11 => "L11",
+    }
+}
+
+fn help_name(at: &Help, own: bool) -> &'static str {
+    match at {
+        Help::H1 { .. } if own => "H1 own",
+        Help::H1 { .. } => "H1 helping",
+        Help::H2 { .. } => "H2",
+        Help::H3 => "H3",
+        Help::H4 => "H4",
+        Help::H5 => "H5",
+        Help::H6 { .. } => "H6",
+        Help::H7 => "H7",
+        Help::H8 => "H8",
+    }
+}
