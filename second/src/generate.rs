@@ -23,7 +23,8 @@ pub fn valid(style: Style, mut random: Random) -> Draft {
     let values: Vec<[u16; 4]> = (0..style.n).map(|_| [0; 4].map(|_: u16| value(&mut random))).collect();
     let machine = Machine::fresh(style.p as u8, values.iter().copied());
     let rests = vec![0; style.p];
-    let mut maker = Maker { style, random, machine, rests, last: 0, events: Vec::new() };
+    let before = vec![(0, [0; 4]); style.p];
+    let mut maker = Maker { style, random, machine, rests, last: 0, before, events: Vec::new() };
     while maker.events.len() < maker.style.events {
         if maker.style.scenes { maker.scene() } else { maker.turn() }
     }
@@ -44,6 +45,8 @@ pub struct Maker {
     rests: Vec<usize>,
     /// The task of the event before.
     last: usize,
+    /// For each task, the list that it named before, with its length.
+    before: Vec<(u8, [u8; 4])>,
     pub events: Vec<Bytes>,
 }
 
@@ -99,12 +102,18 @@ impl Maker {
         if self.random.chance(40) {
             return Event::Read { t, r: self.hot(), field: self.random.below(4) as u8 };
         }
+        let (n, list) = self.before[usize::from(t)];
+        if n > 0 && self.random.chance(40) {
+            // Its links stand if a VLX answered yes, and are gone if it answered no or was an SCX.
+            return Event::Scx { t, n, list, write: self.write(n) };
+        }
         if linked.is_empty() || (linked.len() < self.style.list.min(self.style.hot) && self.random.chance(850)) {
             return Event::Llx { t, r: self.unlinked(t) };
         }
         let longest = linked.len().min(self.style.list);
         let n = self.random.from_to(1, longest).max(self.random.from_to(1, longest));
         let (n, list) = fit(&linked[..n]);
+        self.before[usize::from(t)] = (n, list);
         match self.random.below(100) {
             0..=14 => Event::Vlx { t, n, list },
             15..=89 => Event::Scx { t, n, list, write: self.write(n) },
