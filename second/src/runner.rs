@@ -3,7 +3,7 @@
 use crate::sheet::Sheet;
 use crate::table::{Answer, Machine, Outcome};
 use crate::watch::{Flaw, Watch};
-use std::io::Write;
+use std::fmt::Write;
 
 /// What the last line counts, brought up to date by every answer.
 #[derive(Default)]
@@ -24,9 +24,9 @@ impl Tally {
     }
 }
 
-/// The text of a run; writing into a vector cannot fail.
-pub fn run<W: Watch>(bytes: &[u8], watch: &mut W) -> Vec<u8> {
-    let mut out = Vec::new();
+/// The text of a run; writing into a string cannot fail.
+pub fn run<W: Watch>(bytes: &[u8], watch: &mut W) -> String {
+    let mut out = String::new();
     match Sheet::read(bytes, watch) {
         Ok(sheet) => print_run(&sheet, &mut out, watch),
         Err(refusal) => {
@@ -37,7 +37,7 @@ pub fn run<W: Watch>(bytes: &[u8], watch: &mut W) -> Vec<u8> {
     out
 }
 
-fn print_run<W: Watch>(sheet: &Sheet, out: &mut Vec<u8>, watch: &mut W) {
+fn print_run<W: Watch>(sheet: &Sheet, out: &mut String, watch: &mut W) {
     let mut machine = Machine::fresh(sheet.p, sheet.records());
     let mut tally = Tally::default();
     for (k, event) in sheet.events().enumerate() {
@@ -55,7 +55,7 @@ fn print_run<W: Watch>(sheet: &Sheet, out: &mut Vec<u8>, watch: &mut W) {
     writeln!(out, "T {} {} {}", tally.yes, tally.no, tally.fail).unwrap();
 }
 
-fn print_event(k: usize, t: u8, outcome: &Outcome, out: &mut Vec<u8>) {
+fn print_event(k: usize, t: u8, outcome: &Outcome, out: &mut String) {
     match outcome {
         Ok(Answer::Snapshot(cells)) => {
             let [a, b, c, d] = cells.map(|cell| cell.value);

@@ -38,7 +38,7 @@ fn compare(program: &str, sheets: u64, seed: u64) -> Result<(), String> {
         let sheet = generate::sheet(seed, k);
         fs::write(&path, &sheet).map_err(|why| format!("{}: {why}", path.display()))?;
         let ours = runner::run(&sheet, &mut cover);
-        if let Some(difference) = theirs(program, &path).map_or_else(Some, |theirs| difference(&ours, &theirs)) {
+        if let Some(difference) = theirs(program, &path).map_or_else(Some, |theirs| difference(ours.as_bytes(), &theirs)) {
             let kept = beside(&format!("differs-{seed}-{k}.sheet"))?;
             fs::rename(&path, &kept).map_err(|why| format!("{}: {why}", kept.display()))?;
             return Err(format!("sheet {k} of seed {seed}: {difference}\nthe sheet is {}", kept.display()));
