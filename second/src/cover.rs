@@ -1,6 +1,6 @@
 //! Counts of what was reached over many sheets, held against the lists of what must and what must not be.
 
-use crate::list::{REACHABLE, UNREACHABLE};
+use crate::reach::{REACHABLE, UNREACHABLE};
 use crate::watch::Watch;
 use std::collections::BTreeMap;
 
@@ -43,22 +43,22 @@ impl Cover {
         out
     }
 
-    /// What should have been reached and was not, what was and should not have been, and what no list names.
-    pub fn faults(&self) -> Vec<String> {
-        let mut faults = Vec::new();
-        for what in wanted() {
-            if self.count(what) == 0 {
-                faults.push(format!("not reached: {}", show(what)));
-            }
-        }
+    /// What should have been reached and was not.
+    pub fn missing(&self) -> Vec<String> {
+        wanted().filter(|&what| self.count(what) == 0).map(|what| format!("not reached: {}", show(what))).collect()
+    }
+
+    /// What was reached and should not have been, or is in no list.
+    pub fn strange(&self) -> Vec<String> {
+        let mut strange = Vec::new();
         for &what in self.counts.keys() {
             if let Some((_, why)) = UNREACHABLE.iter().find(|one| what == (one.0, None)) {
-                faults.push(format!("reached, though {why}: {}", show(what)));
+                strange.push(format!("reached, though {why}: {}", show(what)));
             } else if !wanted().any(|one| one == what) {
-                faults.push(format!("reached, but in no list: {}", show(what)));
+                strange.push(format!("reached, but in no list: {}", show(what)));
             }
         }
-        faults
+        strange
     }
 
     /// How many of the reachable were reached, and how many there are.

@@ -71,7 +71,7 @@ fn small(random: &mut Random) -> Draft {
     let mut style = Style::of(1, random);
     style.events = random.below(40);
     style.heading = style.heading.min(100);
-    let seed = random.next();
+    let seed = random.word();
     generate::valid(style, Random::of(seed, 0))
 }
 

@@ -20,7 +20,11 @@ impl<'a> Scan<'a> {
     }
 
     fn must(&mut self, sign: char) -> Result<(), String> {
-        if self.sign(sign) { Ok(()) } else { Err(format!("'{sign}' is wanted before '{}'", self.rest)) }
+        if self.sign(sign) {
+            Ok(())
+        } else {
+            Err(format!("'{sign}' is wanted before '{}'", self.rest))
+        }
     }
 
     fn word(&mut self, part: fn(&char) -> bool) -> &'a str {
@@ -105,7 +109,11 @@ impl Text {
             "end" => self.end()?,
             _ => self.event(word, &mut scan)?,
         }
-        if scan.rest.trim().is_empty() { Ok(()) } else { Err(format!("'{}' is too much", scan.rest)) }
+        if scan.rest.trim().is_empty() {
+            Ok(())
+        } else {
+            Err(format!("'{}' is too much", scan.rest))
+        }
     }
 
     fn values(&mut self, scan: &mut Scan) -> Result<(), String> {

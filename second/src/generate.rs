@@ -26,7 +26,11 @@ pub fn valid(style: Style, mut random: Random) -> Draft {
     let before = vec![(0, [0; 4]); style.p];
     let mut maker = Maker { style, random, machine, rests, last: 0, before, events: Vec::new() };
     while maker.events.len() < maker.style.events {
-        if maker.style.scenes { maker.scene() } else { maker.turn() }
+        if maker.style.scenes {
+            maker.scene()
+        } else {
+            maker.turn()
+        }
     }
     maker.events.truncate(maker.style.events);
     let mut draft = Draft { heading: Vec::new(), p: maker.style.p as u8, values, events: maker.events };
@@ -139,7 +143,11 @@ impl Maker {
             25..=92 => open.collect(),
             _ => all.collect(),
         };
-        if among.is_empty() { self.random.below(self.style.n) as u8 } else { self.random.pick(&among) }
+        if among.is_empty() {
+            self.random.below(self.style.n) as u8
+        } else {
+            self.random.pick(&among)
+        }
     }
 
     /// Such a record, mostly one that the task has no link to.
@@ -192,11 +200,16 @@ impl Maker {
             7 => {
                 let any: Vec<u8> = (0..n).map(|_| self.random.below(self.style.n + 1) as u8).collect();
                 (n, list) = fit(&any);
-                write = Write { closes: self.random.byte() & 31, place: self.random.below(5) as u8, field: self.random.below(5) as u8, new: 1 };
+                write =
+                    Write { closes: self.random.byte() & 31, place: self.random.below(5) as u8, field: self.random.below(5) as u8, new: 1 };
             }
             _ => {}
         }
-        if self.random.chance(600) { Event::Scx { t, n, list, write } } else { Event::Vlx { t, n, list } }
+        if self.random.chance(600) {
+            Event::Scx { t, n, list, write }
+        } else {
+            Event::Vlx { t, n, list }
+        }
     }
 }
 

@@ -57,7 +57,11 @@ impl Machine {
         let change = &self.changes[usize::from(job.u)];
         let held = self.info(change.list[usize::from(i)]) == job.u;
         watch.seen(if held { "H2: is U" } else { "H2: is not U" });
-        if held { next_hold(i, change.n, watch) } else { Help::H3 }
+        if held {
+            next_hold(i, change.n, watch)
+        } else {
+            Help::H3
+        }
     }
 
     fn at_h5<W: Watch>(&mut self, job: Job, watch: &mut W) -> Help {
@@ -121,7 +125,11 @@ impl Machine {
 /// The place after i is next to be held; after the last comes H5.
 fn next_hold<W: Watch>(i: u8, n: u8, watch: &mut W) -> Help {
     watch.seen(if i + 1 < n { "list: goes on" } else { "list: done" });
-    if i + 1 < n { Help::H1 { i: i + 1 } } else { Help::H5 }
+    if i + 1 < n {
+        Help::H1 { i: i + 1 }
+    } else {
+        Help::H5
+    }
 }
 
 /// The first place of R from i on.

@@ -8,7 +8,25 @@ const CHANGER: [&str; 9] = ["H1 own", "H2", "H3", "H4", "H5", "H6", "H7", "H8", 
 
 /// Where a reader of its records may be left.
 const READER: [&str; 20] = [
-    "L2", "L3", "L4", "L5", "L6", "L7", "L8", "L8", "L9", "L10", "L11", "H1 helping", "H1 helping", "H1 helping", "H2", "H3", "H6", "H7", "H8",
+    "L2",
+    "L3",
+    "L4",
+    "L5",
+    "L6",
+    "L7",
+    "L8",
+    "L8",
+    "L9",
+    "L10",
+    "L11",
+    "H1 helping",
+    "H1 helping",
+    "H1 helping",
+    "H2",
+    "H3",
+    "H6",
+    "H7",
+    "H8",
     "idle",
 ];
 

@@ -72,6 +72,7 @@ impl Event {
 }
 
 /// The parts of an accepted sheet.
+#[derive(Debug)]
 pub struct Sheet<'a> {
     pub heading: &'a [u8],
     pub p: u8,

@@ -108,12 +108,20 @@ impl Machine {
 
     fn check_records(&self, records: &[u8]) -> Result<(), u8> {
         let known = |&r: &u8| usize::from(r) < self.records.len();
-        if records.iter().all(known) { Ok(()) } else { Err(15) }
+        if records.iter().all(known) {
+            Ok(())
+        } else {
+            Err(15)
+        }
     }
 
     fn check_links(&self, t: u8, records: &[u8]) -> Result<(), u8> {
         let linked = |&r: &u8| self.link(t, r).is_some();
-        if records.iter().all(linked) { Ok(()) } else { Err(18) }
+        if records.iter().all(linked) {
+            Ok(())
+        } else {
+            Err(18)
+        }
     }
 
     /// A mistake made on purpose: the links to the records that a refused call names are lost.
@@ -143,7 +151,11 @@ fn first<'a, W: Watch>(n: u8, list: &'a [u8; 4], watch: &mut W) -> Result<&'a [u
 
 fn check_repeats(records: &[u8]) -> Result<(), u8> {
     let repeated = |i: usize| records[..i].contains(&records[i]);
-    if (0..records.len()).any(repeated) { Err(16) } else { Ok(()) }
+    if (0..records.len()).any(repeated) {
+        Err(16)
+    } else {
+        Ok(())
+    }
 }
 
 fn check_write<W: Watch>(n: u8, write: Write, watch: &mut W) -> Result<(), u8> {

@@ -109,7 +109,11 @@ impl Machine {
     fn at_l5<W: Watch>(&mut self, r: u8, m1: bool, a: u8, i: u8, mut cells: [Cell; 4], watch: &mut W) -> Llx {
         cells[usize::from(i)] = self.record(r).cells[usize::from(i)];
         watch.seen_number("L5: cell", usize::from(i));
-        if i < 3 { Llx::L5 { m1, a, i: i + 1, cells } } else { Llx::L6 { m1, a, cells } }
+        if i < 3 {
+            Llx::L5 { m1, a, i: i + 1, cells }
+        } else {
+            Llx::L6 { m1, a, cells }
+        }
     }
 
     fn at_l6<W: Watch>(&mut self, t: u8, r: u8, m1: bool, a: u8, cells: [Cell; 4], watch: &mut W) -> Then {
@@ -176,6 +180,10 @@ impl Machine {
         }
         let last = i + 1 == n;
         watch.seen(if last { "VLX: last, yes" } else { "VLX: goes on" });
-        if last { End(Answer::VlxYes) } else { Go(Place::Vlx { n, list, i: i + 1 }) }
+        if last {
+            End(Answer::VlxYes)
+        } else {
+            Go(Place::Vlx { n, list, i: i + 1 })
+        }
     }
 }

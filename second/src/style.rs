@@ -33,9 +33,8 @@ pub struct Style {
 }
 
 /// The places where being overtaken matters.
-const TRAPS: [&str; 19] = [
-    "L2", "L3", "L4", "L5", "L6", "L7", "L8", "L9", "L10", "L11", "H1 own", "H1 helping", "H2", "H3", "H4", "H5", "H6", "H7", "H8",
-];
+const TRAPS: [&str; 19] =
+    ["L2", "L3", "L4", "L5", "L6", "L7", "L8", "L9", "L10", "L11", "H1 own", "H1 helping", "H2", "H3", "H4", "H5", "H6", "H7", "H8"];
 
 const DEEP_TRAPS: [&str; 8] = ["L8", "L11", "H1 own", "H1 helping", "H2", "H6", "H7", "H8"];
 

@@ -168,17 +168,9 @@ impl Machine {
 
     /// A fresh table of p tasks over records with these values, all idle, no link, no change used.
     pub fn fresh(p: u8, values: impl Iterator<Item = [u16; 4]>) -> Machine {
-        let record = |four: [u16; 4]| Record {
-            cells: four.map(|value| Cell { value, stamp: 0 }),
-            mark: false,
-            info: 0,
-        };
+        let record = |four: [u16; 4]| Record { cells: four.map(|value| Cell { value, stamp: 0 }), mark: false, info: 0 };
         let idle = Task { at: Place::Idle, links: [None; Machine::RECORDS] };
-        Machine {
-            records: values.map(record).collect(),
-            tasks: vec![idle; usize::from(p)],
-            changes: vec![Change::DUMMY],
-        }
+        Machine { records: values.map(record).collect(), tasks: vec![idle; usize::from(p)], changes: vec![Change::DUMMY] }
     }
 
     pub fn record(&mut self, r: u8) -> &mut Record {

@@ -54,7 +54,7 @@ fn what_is_written_lies_in_the_list() {
 fn a_refused_call_keeps_everything() {
     for k in (0..200).filter(|k| k % 4 != 3) {
         let bytes = generate::sheet(5, k);
-        let sheet = Sheet::read(&bytes, &mut Nobody).ok().expect("a valid sheet");
+        let sheet = Sheet::read(&bytes, &mut Nobody).expect("a valid sheet");
         let mut machine = Machine::fresh(sheet.p, sheet.records());
         for event in sheet.events().take(300) {
             let before = machine.clone();
@@ -80,7 +80,7 @@ fn bound(event: &Event) -> u32 {
 fn operations_end_within_their_steps() {
     for k in (0..1000).filter(|k| k % 4 != 3) {
         let bytes = generate::sheet(6, k);
-        let sheet = Sheet::read(&bytes, &mut Nobody).ok().expect("a valid sheet");
+        let sheet = Sheet::read(&bytes, &mut Nobody).expect("a valid sheet");
         let mut machine = Machine::fresh(sheet.p, sheet.records());
         let mut left = [0; 8];
         for event in sheet.events() {

@@ -50,7 +50,7 @@ fn compare(program: &str, sheets: u64, seed: u64) -> Result<(), String> {
     fs::remove_file(&path).map_err(|why| format!("{}: {why}", path.display()))?;
     print!("{}", cover.table());
     println!("{sheets} sheets of seed {seed}: {events} events, {bytes_in} bytes in, {bytes_out} bytes out, all the same");
-    judge(&cover)
+    judge(&cover, sheets)
 }
 
 /// A file next to this program, so that nothing is left elsewhere.
@@ -64,7 +64,11 @@ fn theirs(program: &str, path: &Path) -> Result<Vec<u8>, String> {
     let input = File::open(path).map_err(|why| why.to_string())?;
     let run = Command::new(program).stdin(input).stderr(Stdio::inherit()).output();
     let output = run.map_err(|why| format!("{program}: {why}"))?;
-    if output.status.success() { Ok(output.stdout) } else { Err(format!("{program}: {}", output.status)) }
+    if output.status.success() {
+        Ok(output.stdout)
+    } else {
+        Err(format!("{program}: {}", output.status))
+    }
 }
 
 /// The first line in which two texts differ.
@@ -84,11 +88,17 @@ fn difference(ours: &[u8], theirs: &[u8]) -> Option<String> {
     }
 }
 
-fn judge(cover: &Cover) -> Result<(), String> {
+/// Nothing unreachable may be reached; that everything reachable is can be asked only of the usual number of sheets.
+fn judge(cover: &Cover, sheets: u64) -> Result<(), String> {
     let (reached, all) = cover.reached();
     println!("{reached} of {all} reachable branches, answers and refusals reached");
-    let faults = cover.faults();
-    if faults.is_empty() { Ok(()) } else { Err(faults.join("\n")) }
+    let missing = if sheets < SHEETS { Vec::new() } else { cover.missing() };
+    let faults = [missing, cover.strange()].concat();
+    if faults.is_empty() {
+        Ok(())
+    } else {
+        Err(faults.join("\n"))
+    }
 }
 
 /// Every mistake must show in the text of some sheet.
@@ -104,5 +114,9 @@ fn broken(sheets: u64, seed: u64) -> Result<(), String> {
     for (count, (_, name)) in noticed.iter().zip(Flaw::ALL) {
         println!("{count:>9}  sheets notice that {name}");
     }
-    if noticed.contains(&0) { Err("a mistake is not noticed".into()) } else { Ok(()) }
+    if noticed.contains(&0) {
+        Err("a mistake is not noticed".into())
+    } else {
+        Ok(())
+    }
 }

@@ -31,7 +31,11 @@ fn cover(seed: u64, count: u64) -> ExitCode {
         runner::run(&generate::sheet(seed, k), &mut cover);
     }
     print!("{}", cover.table());
-    let faults = cover.faults();
+    let faults = [cover.missing(), cover.strange()].concat();
     faults.iter().for_each(|fault| println!("{fault}"));
-    if faults.is_empty() { ExitCode::SUCCESS } else { ExitCode::FAILURE }
+    if faults.is_empty() {
+        ExitCode::SUCCESS
+    } else {
+        ExitCode::FAILURE
+    }
 }
