@@ -68,7 +68,8 @@ pub fn damaged(k: u64, random: &mut Random) -> Vec<u8> {
 
 /// A right sheet of a few events.
 fn small(random: &mut Random) -> Draft {
-    let mut style = Style::of(1, random);
+    let kind = random.pick(&[1, 2, 2, 5, 60]);
+    let mut style = Style::of(kind, random);
     style.events = random.below(40);
     style.heading = style.heading.min(100);
     let seed = random.word();
