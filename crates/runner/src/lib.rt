@@ -1,13 +1,16 @@
 // The runner: the bytes of a sheet in, the text of its run out, in a lent buffer.
 ghost use mathlib.Core.Path.{_≡_};
+ghost use Prim.Native.Nat.{_≤_};
 ghost use lib.ListN.{length};
-ghost use Rattle.runner.specs.Run.{ranOf, printedOf};
+ghost use Rattle.text.specs.Text.{joined};
+ghost use Rattle.text.specs.Put.{Put};
+ghost use Rattle.sheet.specs.declared.Sheet.the-variants.{Read};
+ghost use Rattle.sheet.specs.Layout.{eventsPart, sheetOf};
+ghost use Rattle.runner.specs.Run.{recordLineAt, runText, tableOf, ranOf, printedOf};
 use sheet::Layout;
 use sheet::Sheet;
+use table::Machine;
 use table::Refusal;
-
-mod lines;
-mod play;
 
 // The length of the text, or 25 where the lent buffer is too short for the longest text that the sheet could have.
 pub enum Ran {
@@ -15,7 +18,7 @@ pub enum Ran {
     Refused { why: Refusal },
 }
 
-// The longest line of an event, of a record and of the tally, and room for the line of a refused sheet.
+// The longest line of an event, of a record, of the tally and of a refused sheet.
 const EVENT_LINE: usize = 42;
 
 const RECORD_LINE: usize = 38;
@@ -23,3 +26,74 @@ const RECORD_LINE: usize = 38;
 const TALLY_LINE: usize = 20;
 
 const REFUSAL_LINE: usize = 8;
+
+// The lines of the first n records.
+fn put_records(out: &mut [u8], at: usize, m: Machine, n: u8) -> usize
+    requires { ⌜ n ≤ 32 ⌝ }
+    ensures { λ r. ⌜ Put (now (out .entry)) at (joined (recordLineAt m) n) (now (out .exit)) r ⌝ }
+{
+    let mut next = at;
+    let mut r: u8 = 0;
+    while r < n {
+        let rec = m.records[r as usize];
+        next = lines::put_record(out, next, r, rec);
+        r += 1;
+    }
+    next
+}
+
+// The fresh table of a sheet.
+fn table_of(s: &[u8], at: Layout) -> Machine
+    requires { ⌜ sheetOf (now s) ≡ Read at ⌝ }
+    ensures { λ o. ⌜ o ≡ tableOf (now (s .entry)) at ⌝ }
+{
+    let from = at.from;
+    let end = from + 8 * at.n as usize;
+    let values = sheet::values(&s[from..end]);
+    let given = Machine::FIELDS * at.n as usize;
+    let fresh = Machine::fresh(at.p, at.n, &values[..given]);
+    fresh.m
+}
+
+// The run of a sheet that is not refused.
+fn put_run(s: &[u8], at: Layout, out: &mut [u8]) -> usize
+    requires { ⌜ sheetOf (now s) ≡ Read at ⌝ }
+    ensures { λ r. ⌜ Put (now (out .entry)) 0 (runText (tableOf (now (s .entry)) at) (eventsPart (now (s .entry)) at) (at .events) (at .n)) (now (out .exit)) r ⌝ }
+{
+    let first = table_of(s, at);
+    let from = at.from + 8 * at.n as usize;
+    let end = from + 12 * at.events as usize;
+    let played = play::play(&s[from..end], at.events, first, out);
+    let m = played.m;
+    let tally = played.tally;
+    let next = put_records(out, played.next, m, at.n);
+    lines::put_tally(out, next, tally)
+}
+
+// For any bytes and any buffer.
+pub fn run(s: &[u8], out: &mut [u8]) -> Ran
+    ensures { λ o. ⌜ (o ≡ ranOf (now (s .entry)) (length (now (out .entry)))) × (now (out .exit) ≡ printedOf (now (s .entry)) (now (out .entry))) ⌝ }
+{
+    let read = sheet::layout_of(s);
+    match read {
+        Sheet::Read { at } => {
+            let room = EVENT_LINE * at.events as usize + RECORD_LINE * at.n as usize + TALLY_LINE;
+            if out.len() < room {
+                return Ran::Refused {
+                    why: Refusal::BufferShort,
+                };
+            }
+            let length = put_run(s, at, out);
+            Ran::Text { length }
+        }
+        Sheet::Refused { why } => {
+            if out.len() < REFUSAL_LINE {
+                return Ran::Refused {
+                    why: Refusal::BufferShort,
+                };
+            }
+            let length = lines::put_refusal(out, 0, why);
+            Ran::Text { length }
+        }
+    }
+}
