@@ -15,8 +15,11 @@ answerLine k t answer cells = row (k ∷ t ∷ number answer ∷ values answer c
 abbrev pub bit : Bool → ℕ
 bit b = pick b 1 0
 
+abbrev pub cellsLine : ℕ → Bool → List Cell → List ℕ
+cellsLine r mark cells = lettered 82 (r ∷ bit mark ∷ map (λ c. c .value) cells)
+
 unfoldable pub recordLine : ℕ → Record → List ℕ
-recordLine r x = lettered 82 (r ∷ bit (x .mark) ∷ map (λ c. c .value) (x .cells))
+recordLine r x = cellsLine r (x .mark) (x .cells)
 
 unfoldable pub tallyLine : Tally → List ℕ
 tallyLine t = lettered 84 (t .made ∷ t .no ∷ t .fail ∷ [])

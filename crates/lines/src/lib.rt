@@ -1,9 +1,11 @@
 // The lines of a run, written into a lent buffer.
 ghost use mathlib.Core.Path.{_≡_};
 ghost use mathlib.Core.List.{[], _∷_, map};
+ghost use Prim.Native.Nat.{_≤_};
+ghost use lib.ListN.{length};
 ghost use Rattle.text.specs.Put.{Put};
-ghost use Rattle.text.specs.Text.{row, lettered};
-ghost use Rattle.lines.specs.Lines.{bit, answerLine, recordLine, tallyLine, refusalLine};
+ghost use Rattle.text.specs.Text.{row};
+ghost use Rattle.lines.specs.Lines.{bit, answerLine, cellsLine, recordLine, tallyLine, refusalLine};
 use table::Answer;
 use table::Cells;
 use table::Record;
@@ -38,9 +40,9 @@ fn put_snapshot(out: &mut [u8], at: usize, k: u16, t: u8, cells: Cells) -> usize
     text::put_row(out, at, &xs)
 }
 
-// The line of event k, of task t.
+// The line of event k, of task t: at most seven numbers.
 pub fn put_answer(out: &mut [u8], at: usize, k: u16, t: u8, answer: Answer, cells: Cells) -> usize
-    ensures { λ r. ⌜ Put (now (out .entry)) at (answerLine k t answer cells) (now (out .exit)) r ⌝ }
+    ensures { λ r. ⌜ Put (now (out .entry)) at (answerLine k t answer cells) (now (out .exit)) r × (length (answerLine k t answer cells) ≤ 42) ⌝ }
 {
     match answer {
         Answer::Accepted => put_bare(out, at, k, t, 0),
@@ -61,7 +63,7 @@ fn bit(b: bool) -> u16
 }
 
 fn put_cells(out: &mut [u8], at: usize, r: u8, mark: bool, cells: Cells) -> usize
-    ensures { λ o. ⌜ Put (now (out .entry)) at (lettered 82 (r ∷ bit mark ∷ map (λ c. c .value) cells)) (now (out .exit)) o ⌝ }
+    ensures { λ o. ⌜ Put (now (out .entry)) at (cellsLine r mark cells) (now (out .exit)) o × (length (cellsLine r mark cells) ≤ 38) ⌝ }
 {
     let c0 = cells[0];
     let c1 = cells[1];
@@ -72,9 +74,9 @@ fn put_cells(out: &mut [u8], at: usize, r: u8, mark: bool, cells: Cells) -> usiz
     text::put_lettered(out, at, b'R', &xs)
 }
 
-// The line of record r.
+// The line of record r: a letter and six numbers.
 pub fn put_record(out: &mut [u8], at: usize, r: u8, rec: Record) -> usize
-    ensures { λ o. ⌜ Put (now (out .entry)) at (recordLine r rec) (now (out .exit)) o ⌝ }
+    ensures { λ o. ⌜ Put (now (out .entry)) at (recordLine r rec) (now (out .exit)) o × (length (recordLine r rec) ≤ 38) ⌝ }
 {
     let cells = rec.cells;
     put_cells(out, at, r, rec.mark, cells)

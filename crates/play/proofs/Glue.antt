@@ -1,9 +1,11 @@
 -- From what each part of a turn of the loop ensures to the turn: laws over plain variables, so that no proof looks into a machine.
-use Prim.Native.Nat.{ℕ, _+_, _%_, _<_}
+use Prim.Native.Nat.{ℕ, suc, _+_, _*_, _%_, _≤_, _<_}
+use native.Mathlib.Nat.{mul-suc}
+use native.Mathlib.Omega.{arith}
 use native.Mathlib.Numerals.{add-one}
 use mathlib.Core.Path.{_≡_, refl, sym, ap, ap₂, subst, _∙_}
-use mathlib.Core.List.{List, [], _∷_}
-use lib.ListN.{getD, set, List·getD-map}
+use mathlib.Core.List.{List, [], _∷_, _++_}
+use lib.ListN.{getD, set, length, length-append, List·getD-map}
 use Rattle.rules.specs.Words.{Link, Machine, Access, Call, Answer, Cell, Out}
 use Rattle.table.specs.Table.{noLink, recordAt, changeAt, taskAt, slot, linkAt}
 use Rattle.rules.specs.Access.{accessOf, recordOf}
@@ -106,10 +108,12 @@ pub record Along (m₀ : Machine) (es old : List ℕ) (i : ℕ) (new : List ℕ)
   pub machine : m ≡ turnsTo m₀ es i
   pub tally : t ≡ tallyOf (firstOf (toldIn m₀ es) i)
   pub lines : Puts (lineIn m₀ es) i old 0 new next
+  pub most : length (joined (lineIn m₀ es) i) ≤ 42 * i
 
 pub begins : (m : Machine) (es old : List ℕ) (t : Tally) → t ≡ tallyOf [] → Along m es old 0 old m t 0
-unfolding turnsTo
-begins m es old t e = record { machine = refl; tally = e ∙ ap tallyOf (sym (first-none (toldIn m es))); lines = first }
+unfolding turnsTo joined
+begins m es old t e =
+    record { machine = refl; tally = e ∙ ap tallyOf (sym (first-none (toldIn m es))); lines = first; most = omega arith }
 
 pub goes-on : (m₀ : Machine) (es old : List ℕ) (i : ℕ) (mid new : List ℕ) (m after : Machine) (t u : Tally) (next end : ℕ) (e : Call)
     (said : Operation) (answer : Answer) (cells : List Cell)
@@ -119,11 +123,12 @@ pub goes-on : (m₀ : Machine) (es old : List ℕ) (i : ℕ) (mid new : List ℕ
     → _≡_ {A = Out} (record { m = after; answer = answer; cells = cells }) (turnIn m e)
     → said ≡ operationOf (taskAt m (e .task % 8) .place)
     → u ≡ countedOf t (record { operation = said; answer = answer })
-    → Put mid next (answerLine (i + 1) (e .task) answer cells) new end
+    → Put mid next (answerLine (i + 1) (e .task) answer cells) new end × (length (answerLine (i + 1) (e .task) answer cells) ≤ 42)
     → Along m₀ es old (i + 1) new after u end
-unfolding turnsTo toldIn lineIn
+unfolding turnsTo toldIn lineIn joined
 goes-on m₀ es old i mid new m after t u next end e said answer cells w small ee eo es′ eu put =
     let o : _≡_ {A = Out} (record { m = after; answer = answer; cells = cells }) (turnAt m₀ es i) = eo ∙ ap₂ turnIn (w .machine) ee in
+    let same = ap₂ (λ (x : Out) (y : Call). answerLine (i + 1) (y .task) (x .answer) (x .cells)) o ee in
     record {
       machine = rw add-one (ap (λ (x : Out). x .m) o);
       tally =
@@ -134,11 +139,14 @@ goes-on m₀ es old i mid new m after t u next end e said answer cells w small e
           (λ (x : Out). countedOf (tallyOf (firstOf (toldIn m₀ es) i)) (record { operation = operationOf (taskAt (turnsTo m₀ es i) (eventAt es i .task % 8) .place); answer = x .answer }))
           o
           ∙ counted-next (toldIn m₀ es) i small;
-      lines =
-          again (w .lines)
-          (subst (λ (x : List ℕ). Put mid next x new end)
-          (ap₂ (λ (x : Out) (y : Call). answerLine (i + 1) (y .task) (x .answer) (x .cells)) o ee) put);
+      lines = again (w .lines) (subst (λ (x : List ℕ). Put mid next x new end) same (put .0));
+      most =
+          rw add-one
+          (more (joined (lineIn m₀ es) i) (lineIn m₀ es i) (w .most) (subst (λ (x : List ℕ). length x ≤ 42) same (put .1)));
     }
+  where
+    more : (s t : List ℕ) → length s ≤ 42 * i → length t ≤ 42 → length (s ++ t) ≤ 42 * suc i
+    more s t a b = rw (length-append s t, mul-suc) (omega arith)
 
 pub ends : (m₀ : Machine) (es old : List ℕ) (i n : ℕ) (new : List ℕ) (m : Machine) (t : Tally) (next : ℕ) → Along m₀ es old i new m t next → i ≡ n
     → Plays m₀ es n old new (record { m = m; tally = t; next = next })
@@ -147,4 +155,5 @@ ends m₀ es old i n new m t next w e =
       machine = w .machine ∙ ap (turnsTo m₀ es) e;
       tally = w .tally ∙ ap (λ (k : ℕ). tallyOf (firstOf (toldIn m₀ es) k)) e;
       lines = done (w .lines) e;
+      most = subst (λ (k : ℕ). length (joined (lineIn m₀ es) k) ≤ 42 * k) e (w .most);
     }

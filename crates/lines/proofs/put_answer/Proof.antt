@@ -1,3 +1,4 @@
+use Rattle.lines.proofs.Glue.{answer-most}
 use Rattle.lines.specs.Lines.{answerLine}
 use borrow.Author.Needs.{needs}
 use Rattle.lines.proofs.put_answer.Statement.{statement}
@@ -84,7 +85,7 @@ same-length c = search needs
 -- src/lib.rt:42:1
 returns : tie.Need-returns
 unfolding answerLine
-returns c = simp (c .before .before .before .before .enum-told .given .1) (c .before .before .put-bare .ensures)
+returns c = (simp (c .before .before .before .before .enum-told .given .1) (c .before .before .put-bare .ensures), answer-most (c .before .before .before .before .before .before .before .args .k) (c .before .before .before .before .before .before .before .args .t) (c .before .before .before .before .before .before .before .args .answer) (c .before .before .before .before .before .before .before .args .cells) (search needs))
 
 -- src/lib.rt:42:1
 same-length-2 : tie.Need-same-length-2
@@ -93,7 +94,7 @@ same-length-2 c = search needs
 -- src/lib.rt:42:1
 returns-2 : tie.Need-returns-2
 unfolding answerLine
-returns-2 c = simp (c .before .before .before .before .enum-told2 .given .1) (c .before .before .put-snapshot .ensures)
+returns-2 c = (simp (c .before .before .before .before .enum-told2 .given .1) (c .before .before .put-snapshot .ensures), answer-most (c .before .before .before .before .before .before .before .args .k) (c .before .before .before .before .before .before .before .args .t) (c .before .before .before .before .before .before .before .args .answer) (c .before .before .before .before .before .before .before .args .cells) (search needs))
 
 -- src/lib.rt:42:1
 same-length-3 : tie.Need-same-length-3
@@ -102,7 +103,7 @@ same-length-3 c = search needs
 -- src/lib.rt:42:1
 returns-3 : tie.Need-returns-3
 unfolding answerLine
-returns-3 c = simp (c .before .before .before .before .enum-told3 .given .1) (c .before .before .put-bare2 .ensures)
+returns-3 c = (simp (c .before .before .before .before .enum-told3 .given .1) (c .before .before .put-bare2 .ensures), answer-most (c .before .before .before .before .before .before .before .args .k) (c .before .before .before .before .before .before .before .args .t) (c .before .before .before .before .before .before .before .args .answer) (c .before .before .before .before .before .before .before .args .cells) (search needs))
 
 -- src/lib.rt:42:1
 same-length-4 : tie.Need-same-length-4
@@ -111,7 +112,7 @@ same-length-4 c = search needs
 -- src/lib.rt:42:1
 returns-4 : tie.Need-returns-4
 unfolding answerLine
-returns-4 c = simp (c .before .before .before .before .enum-told4 .given .1) (c .before .before .put-bare3 .ensures)
+returns-4 c = (simp (c .before .before .before .before .enum-told4 .given .1) (c .before .before .put-bare3 .ensures), answer-most (c .before .before .before .before .before .before .before .args .k) (c .before .before .before .before .before .before .before .args .t) (c .before .before .before .before .before .before .before .args .answer) (c .before .before .before .before .before .before .before .args .cells) (search needs))
 
 -- src/lib.rt:42:1
 same-length-5 : tie.Need-same-length-5
@@ -120,7 +121,7 @@ same-length-5 c = search needs
 -- src/lib.rt:42:1
 returns-5 : tie.Need-returns-5
 unfolding answerLine
-returns-5 c = simp (c .before .before .before .before .enum-told5 .given .1) (c .before .before .put-bare4 .ensures)
+returns-5 c = (simp (c .before .before .before .before .enum-told5 .given .1) (c .before .before .put-bare4 .ensures), answer-most (c .before .before .before .before .before .before .before .args .k) (c .before .before .before .before .before .before .before .args .t) (c .before .before .before .before .before .before .before .args .answer) (c .before .before .before .before .before .before .before .args .cells) (search needs))
 
 -- src/lib.rt:42:1
 same-length-6 : tie.Need-same-length-6
@@ -129,7 +130,7 @@ same-length-6 c = search needs
 -- src/lib.rt:42:1
 returns-6 : tie.Need-returns-6
 unfolding answerLine
-returns-6 c = simp (c .before .before .before .before .enum-told6 .given .1) (c .before .before .put-bare5 .ensures)
+returns-6 c = (simp (c .before .before .before .before .enum-told6 .given .1) (c .before .before .put-bare5 .ensures), answer-most (c .before .before .before .before .before .before .before .args .k) (c .before .before .before .before .before .before .before .args .t) (c .before .before .before .before .before .before .before .args .answer) (c .before .before .before .before .before .before .before .args .cells) (search needs))
 
 -- src/lib.rt:42:1
 same-length-7 : tie.Need-same-length-7
@@ -138,7 +139,7 @@ same-length-7 c = search needs
 -- src/lib.rt:42:1
 returns-7 : tie.Need-returns-7
 unfolding answerLine
-returns-7 c = simp (c .before .before .before .before .before .answer .given .1) (c .before .before .put-value .ensures)
+returns-7 c = (simp (c .before .before .before .before .before .answer .given .1) (c .before .before .put-value .ensures), answer-most (c .before .before .before .before .before .before .before .before .args .k) (c .before .before .before .before .before .before .before .before .args .t) (c .before .before .before .before .before .before .before .before .args .answer) (c .before .before .before .before .before .before .before .before .args .cells) (search needs))
 
 -- src/lib.rt:42:1
 same-length-8 : tie.Need-same-length-8
@@ -147,7 +148,7 @@ same-length-8 c = search needs
 -- src/lib.rt:42:1
 returns-8 : tie.Need-returns-8
 unfolding answerLine
-returns-8 c = simp (c .before .before .before .before .before .before .answer2 .given .1) (simp (c .before .before .before .refusal-number .ensures) at (c .before .before .put-bare6 .ensures))
+returns-8 c = (simp (c .before .before .before .before .before .before .answer2 .given .1) (simp (c .before .before .before .refusal-number .ensures) at (c .before .before .put-bare6 .ensures)), answer-most (c .before .before .before .before .before .before .before .before .before .args .k) (c .before .before .before .before .before .before .before .before .before .args .t) (c .before .before .before .before .before .before .before .before .before .args .answer) (c .before .before .before .before .before .before .before .before .before .args .cells) (search needs))
 
 pub put-answer-spec : {M : Type 1} → statement M
 put-answer-spec =

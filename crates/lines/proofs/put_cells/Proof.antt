@@ -1,4 +1,4 @@
-use Rattle.lines.proofs.Glue.{four-values}
+use Rattle.lines.proofs.Glue.{four-values, cells-most}
 use borrow.Author.Needs.{needs}
 use Rattle.lines.proofs.put_cells.Statement.{statement}
 use Rattle.lines.proofs.put_cells.Tie as tie
@@ -41,7 +41,7 @@ same-length c = search needs
 
 -- src/lib.rt:63:1
 returns : tie.Need-returns
-returns c = rw (← four-values (c .before .before .before .before .before .before .before .before .before .before .before .args .t5) (search needs), ← c .before .before .before .before .before .bit .ensures) (c .before .before .put-lettered .ensures)
+returns c = (rw (← four-values (c .before .before .before .before .before .before .before .before .before .before .before .args .t5) (search needs), ← c .before .before .before .before .before .bit .ensures) (c .before .before .put-lettered .ensures), cells-most (c .before .before .before .before .before .before .before .before .before .before .before .args .r) (c .before .before .before .before .before .before .before .before .before .before .before .args .mark) (c .before .before .before .before .before .before .before .before .before .before .before .args .t5) (search needs))
 
 pub put-cells-spec : {M : Type 1} → statement M
 put-cells-spec =
