@@ -23,7 +23,7 @@ use Rattle.exact.proofs.Refusal.{refusal-is}
 use Rattle.exact.proofs.Start.{start-is}
 use Rattle.exact.proofs.Step.{step-is}
 
-in-shape : (m : Machine) → inShape m ≡ true → InShape m
+pub in-shape : (m : Machine) → inShape m ≡ true → InShape m
 unfolding inShape InShape
 in-shape m h = told (m .used) (shape m) h
 

@@ -1,11 +1,9 @@
 -- From what each part of a turn of the loop ensures to the turn: laws over plain variables, so that no proof looks into a machine.
-use Prim.Native.Nat.{ℕ, suc, _+_, _*_, _%_, _≤_, _<_}
-use native.Mathlib.Nat.{mul-suc}
-use native.Mathlib.Omega.{arith}
+use Prim.Native.Nat.{ℕ, _+_, _*_, _%_, _≤_, _<_}
 use native.Mathlib.Numerals.{add-one}
 use mathlib.Core.Path.{_≡_, refl, sym, ap, ap₂, subst, _∙_}
-use mathlib.Core.List.{List, [], _∷_, _++_}
-use lib.ListN.{getD, set, length, length-append, List·getD-map}
+use mathlib.Core.List.{List, [], _∷_}
+use lib.ListN.{getD, set, length, List·getD-map}
 use Rattle.rules.specs.Words.{Link, Machine, Access, Call, Answer, Cell, Out}
 use Rattle.table.specs.Table.{noLink, recordAt, changeAt, taskAt, slot, linkAt}
 use Rattle.rules.specs.Access.{accessOf, recordOf}
@@ -22,6 +20,7 @@ use Rattle.tally.proofs.Counting.{counted-next, first-none}
 use Rattle.text.specs.Text.{joined}
 use Rattle.text.specs.Put.{Put}
 use Rattle.text.proofs.Laws.{Puts, first, again, done}
+use Rattle.text.proofs.Most.{most-none, most-again}
 use Rattle.lines.specs.Lines.{answerLine}
 use Rattle.play.specs.declared.Played.{Played}
 use Rattle.play.specs.Play.{turnsTo, turnAt, toldIn, lineIn, Plays}
@@ -111,9 +110,9 @@ pub record Along (m₀ : Machine) (es old : List ℕ) (i : ℕ) (new : List ℕ)
   pub most : length (joined (lineIn m₀ es) i) ≤ 42 * i
 
 pub begins : (m : Machine) (es old : List ℕ) (t : Tally) → t ≡ tallyOf [] → Along m es old 0 old m t 0
-unfolding turnsTo joined
+unfolding turnsTo
 begins m es old t e =
-    record { machine = refl; tally = e ∙ ap tallyOf (sym (first-none (toldIn m es))); lines = first; most = omega arith }
+    record { machine = refl; tally = e ∙ ap tallyOf (sym (first-none (toldIn m es))); lines = first; most = most-none (lineIn m es) 42 }
 
 pub goes-on : (m₀ : Machine) (es old : List ℕ) (i : ℕ) (mid new : List ℕ) (m after : Machine) (t u : Tally) (next end : ℕ) (e : Call)
     (said : Operation) (answer : Answer) (cells : List Cell)
@@ -125,7 +124,7 @@ pub goes-on : (m₀ : Machine) (es old : List ℕ) (i : ℕ) (mid new : List ℕ
     → u ≡ countedOf t (record { operation = said; answer = answer })
     → Put mid next (answerLine (i + 1) (e .task) answer cells) new end × (length (answerLine (i + 1) (e .task) answer cells) ≤ 42)
     → Along m₀ es old (i + 1) new after u end
-unfolding turnsTo toldIn lineIn joined
+unfolding turnsTo toldIn lineIn
 goes-on m₀ es old i mid new m after t u next end e said answer cells w small ee eo es′ eu put =
     let o : _≡_ {A = Out} (record { m = after; answer = answer; cells = cells }) (turnAt m₀ es i) = eo ∙ ap₂ turnIn (w .machine) ee in
     let same = ap₂ (λ (x : Out) (y : Call). answerLine (i + 1) (y .task) (x .answer) (x .cells)) o ee in
@@ -140,13 +139,8 @@ goes-on m₀ es old i mid new m after t u next end e said answer cells w small e
           o
           ∙ counted-next (toldIn m₀ es) i small;
       lines = again (w .lines) (subst (λ (x : List ℕ). Put mid next x new end) same (put .0));
-      most =
-          rw add-one
-          (more (joined (lineIn m₀ es) i) (lineIn m₀ es i) (w .most) (subst (λ (x : List ℕ). length x ≤ 42) same (put .1)));
+      most = most-again (lineIn m₀ es) 42 i (w .most) (subst (λ (x : List ℕ). length x ≤ 42) same (put .1));
     }
-  where
-    more : (s t : List ℕ) → length s ≤ 42 * i → length t ≤ 42 → length (s ++ t) ≤ 42 * suc i
-    more s t a b = rw (length-append s t, mul-suc) (omega arith)
 
 pub ends : (m₀ : Machine) (es old : List ℕ) (i n : ℕ) (new : List ℕ) (m : Machine) (t : Tally) (next : ℕ) → Along m₀ es old i new m t next → i ≡ n
     → Plays m₀ es n old new (record { m = m; tally = t; next = next })

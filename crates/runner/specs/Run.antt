@@ -50,8 +50,11 @@ runText m es count n =
 unfoldable pub tableOf : List ℕ → Layout → Machine
 tableOf s at = fresh (at .p) (at .n) (partsOf s at .values) .m
 
+abbrev pub runOf : List ℕ → Layout → List ℕ
+runOf s at = runText (tableOf s at) (eventsPart s at) (at .events) (at .n)
+
 abbrev pub textAs : List ℕ → Sheet → List ℕ
-textAs s (Read at) = runText (tableOf s at) (eventsPart s at) (at .events) (at .n)
+textAs s (Read at) = runOf s at
 textAs s (Refused why) = refusalLine why
 
 unfoldable pub textOf : List ℕ → List ℕ

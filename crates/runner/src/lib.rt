@@ -1,12 +1,12 @@
 // The runner: the bytes of a sheet in, the text of its run out, in a lent buffer.
 ghost use mathlib.Core.Path.{_≡_};
-ghost use Prim.Native.Nat.{_≤_};
+ghost use Prim.Native.Nat.{_+_, _*_, _≤_};
 ghost use lib.ListN.{length};
 ghost use Rattle.text.specs.Text.{joined};
 ghost use Rattle.text.specs.Put.{Put};
 ghost use Rattle.sheet.specs.declared.Sheet.the-variants.{Read};
-ghost use Rattle.sheet.specs.Layout.{eventsPart, sheetOf};
-ghost use Rattle.runner.specs.Run.{recordLineAt, runText, tableOf, ranOf, printedOf};
+ghost use Rattle.sheet.specs.Layout.{sheetOf};
+ghost use Rattle.runner.specs.Run.{recordLineAt, tableOf, runOf, ranOf, printedOf};
 use sheet::Layout;
 use sheet::Sheet;
 use table::Machine;
@@ -30,7 +30,7 @@ const REFUSAL_LINE: usize = 8;
 // The lines of the first n records.
 fn put_records(out: &mut [u8], at: usize, m: Machine, n: u8) -> usize
     requires { ⌜ n ≤ 32 ⌝ }
-    ensures { λ r. ⌜ Put (now (out .entry)) at (joined (recordLineAt m) n) (now (out .exit)) r ⌝ }
+    ensures { λ r. ⌜ Put (now (out .entry)) at (joined (recordLineAt m) n) (now (out .exit)) r × (length (joined (recordLineAt m) n) ≤ 38 * n) ⌝ }
 {
     let mut next = at;
     let mut r: u8 = 0;
@@ -58,7 +58,7 @@ fn table_of(s: &[u8], at: Layout) -> Machine
 // The run of a sheet that is not refused.
 fn put_run(s: &[u8], at: Layout, out: &mut [u8]) -> usize
     requires { ⌜ sheetOf (now s) ≡ Read at ⌝ }
-    ensures { λ r. ⌜ Put (now (out .entry)) 0 (runText (tableOf (now (s .entry)) at) (eventsPart (now (s .entry)) at) (at .events) (at .n)) (now (out .exit)) r ⌝ }
+    ensures { λ r. ⌜ Put (now (out .entry)) 0 (runOf (now (s .entry)) at) (now (out .exit)) r × (length (runOf (now (s .entry)) at) ≤ 42 * at .events + 38 * at .n + 20) ⌝ }
 {
     let first = table_of(s, at);
     let from = at.from + 8 * at.n as usize;

@@ -1,6 +1,7 @@
 -- How long a line can be: six bytes for a number of up to five digits and what comes after it.
 use Prim.Native.Nat.{ℕ, zero, suc, _+_, _*_, _/_, _≤_, _<_}
 use native.Mathlib.Nat.{mul-suc}
+use native.Mathlib.Numerals.{add-one}
 use native.Mathlib.Omega.{arith}
 use mathlib.Core.Bool.{Bool, true, false}
 use mathlib.Core.Path.{_≡_, refl}
@@ -37,6 +38,15 @@ pub joined-most : (f : ℕ → List ℕ) (k n : ℕ) → ((i : ℕ) → length (
 unfolding joined
 joined-most f k zero h = omega arith
 joined-most f k (suc n) h = rw mul-suc (both-most (joined f n) (f n) (k * n) k (joined-most f k n h) (h n))
+
+-- one piece more, in a loop
+pub most-again : (f : ℕ → List ℕ) (k i : ℕ) → length (joined f i) ≤ k * i → length (f i) ≤ k → length (joined f (i + 1)) ≤ k * (i + 1)
+unfolding joined
+most-again f k i h g = rw (add-one, mul-suc) (both-most (joined f i) (f i) (k * i) k h g)
+
+pub most-none : (f : ℕ → List ℕ) (k : ℕ) → length (joined f 0) ≤ k * 0
+unfolding joined
+most-none f k = omega arith
 
 pub row-most : (xs : List ℕ) → length (row xs) ≤ 6 * length xs
 row-most xs = joined-most (wordAt xs) 6 (length xs) (λ i. both-most (digits (getD xs i 0)) (ended (length xs) i ∷ []) 5 1 (digits-most (getD xs i 0)) (omega arith))
