@@ -1,4 +1,5 @@
 pub mod Bytes
+pub mod Laws
 pub mod Refusals
 pub mod Stored
 pub mod Unused

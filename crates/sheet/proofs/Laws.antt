@@ -1,0 +1,138 @@
+-- What callers know of a sheet that was read: its tests were kept, and its parts lie inside it. And when the writer accepts.
+use Prim.Native.Nat.{ℕ, _+_, _-_, _*_, _≤_, _<_}
+use native.Mathlib.Omega.{arith}
+use mathlib.Core.Path.{_≡_, refl, sym, ap, _∙_}
+use mathlib.Core.Bool.{Bool, true, false}
+use mathlib.Core.List.{List, [], _∷_, _++_}
+use lib.ListN.{length, take, drop, getD, length-take, length-drop}
+use lib.Seq.{ext-getD, getD-take, length-take-le}
+use Rattle.table.specs.Table.{pick, tabulate}
+use Rattle.table.proofs.Tabulate.{length-tabulate, getD-tabulate}
+use Rattle.rules.specs.Words.{Refusal, SheetSize, SheetTag, Counts, Distance, EventKind, BufferShort, Check, Passed, Failed}
+use Rattle.rules.specs.Claim.{test}
+use Rattle.rules.specs.Refuse.{check}
+use Rattle.rules.proofs.Exact.{told, passes}
+use Rattle.sheet.specs.declared.Layout.{Layout}
+use Rattle.sheet.specs.declared.Sheet.{Sheet}
+use Rattle.sheet.specs.declared.Sheet.the-variants.{Read, Refused}
+use Rattle.sheet.specs.declared.Written.{Written}
+use Rattle.sheet.specs.declared.Written.the-variants.{Sheet as WrittenSheet, Refused as NotWritten}
+use Rattle.sheet.specs.Layout.{pair, layoutOf, valuesPart, eventsPart, eventsFine, sizeFine, countsFine, readAs, sheetRules, sheetOf, numbers, valuesIn, upTo, sheetSize, sheetBytes, writerRules, writtenAs, writtenOf, bufferOf}
+use Rattle.sheet.proofs.Refusals.{size, tag, counts, back, events, accepted, filled, long-enough}
+use Rattle.sheet.proofs.Writing.{given}
+
+-- a test that does not stop the check was passed
+pub kept-on : (b : Bool) (c : Check) (why : Refusal) → pick b c (Failed why) ≡ Passed → (b ≡ true) × (c ≡ Passed)
+kept-on true c why h = (refl, h)
+kept-on false c why h = let z : _≡_ {A = ℕ} 0 1 = cc in absurd (omega arith)
+
+-- A SHEET THAT WAS READ
+
+-- the five tests
+pub record Kept (s : List ℕ) (at : Layout) : Type 0 where
+  pub layout : at ≡ layoutOf s
+  pub size-kept : size s ≡ true
+  pub tag-kept : tag s ≡ true
+  pub counts-kept : counts at ≡ true
+  pub back-kept : back s at ≡ true
+  pub events-kept : events s at ≡ true
+
+pub read-kept : {s : List ℕ} {at : Layout} → sheetOf s ≡ Read at → Kept s at
+unfolding sheetOf
+read-kept {s} {at} e = let (passed, layout) = go (check (sheetRules s (layoutOf s))) e in rest passed layout
+  where
+    go : (c : Check) → readAs c (layoutOf s) ≡ Read at → (c ≡ Passed) × (at ≡ layoutOf s)
+    go Passed h = (refl, cc)
+    go (Failed why) h = let z : _≡_ {A = ℕ} 0 1 = cc in absurd (omega arith)
+
+    rest : check (sheetRules s (layoutOf s)) ≡ Passed → at ≡ layoutOf s → Kept s at
+    rest c f =
+        let at′ = layoutOf s in
+        let k20 = kept-on (size s) _ SheetSize c in
+        let k21 = kept-on (tag s) _ SheetTag (k20 .1) in
+        let k22 = kept-on (counts at′) _ Counts (k21 .1) in
+        let k23 = kept-on (back s at′) _ Distance (k22 .1) in
+        let k24 = kept-on (events s at′) _ EventKind (k23 .1) in
+        record {
+          layout = f;
+          size-kept = k20 .0;
+          tag-kept = k21 .0;
+          counts-kept = rw f (k22 .0);
+          back-kept = rw f (k23 .0);
+          events-kept = rw f (k24 .0);
+        }
+
+pub kept-read : {s : List ℕ} {at : Layout} → Kept s at → sheetOf s ≡ Read at
+kept-read {s} {at} k =
+    rw (k .layout)
+    (sym
+    (accepted s (k .size-kept) (k .tag-kept) (rw (k .layout) at (k .counts-kept)) (rw (k .layout) at (k .back-kept)) (rw (k .layout) at (k .events-kept))))
+
+-- where the parts lie, and the ranges of the counts
+pub record Inside (s : List ℕ) (at : Layout) : Type 0 where
+  pub whole : at .from + 8 * at .n + 12 * at .events + 8 ≡ length s
+  pub tasks : (1 ≤ at .p) × (at .p ≤ 8)
+  pub records : (1 ≤ at .n) × (at .n ≤ 32)
+  pub most-events : at .events ≤ 5000
+  pub most-bytes : length s ≤ 65000
+
+pub read-inside : {s : List ℕ} {at : Layout} → sheetOf s ≡ Read at → Inside s at
+read-inside {s} {at} e =
+    let k = read-kept e in
+    let q = told 0 (countsFine (at .p) (at .n) (at .events)) (k .counts-kept) in
+    let l = long-enough s (k .size-kept) in
+    let f : at .from + 8 * at .n + 12 * at .events ≡ length s - 8 = rw (k .layout) (filled s (rw (k .layout) at (k .back-kept))) in
+    record {
+      whole = omega arith;
+      tasks = (q .0 .0, omega (arith, q .0 .1));
+      records = (q .1 .0 .0, omega (arith, q .1 .0 .1));
+      most-events = omega (arith, q .1 .1);
+      most-bytes = omega (arith, told 0 (sizeFine (length s)) (k .size-kept) .1);
+    }
+
+-- the first values of a part are its numbers
+pub take-values : (part : List ℕ) (k : ℕ) → k ≤ 128 → take k (valuesIn part) ≡ numbers k part
+unfolding valuesIn numbers
+take-values part k l =
+    let f : ℕ → ℕ = λ i. pair part (2 * i) in
+    let e : length (take k (tabulate 128 f)) ≡ k = length-take-le k (tabulate 128 f) (rw length-tabulate l) in
+    ext-getD 0 (take k (tabulate 128 f)) (tabulate k f) (e ∙ sym (length-tabulate k f))
+    (λ i q. let h : i < k = rw e at q in getD-take k (tabulate 128 f) i 0 h ∙ getD-tabulate 128 f i 0 (omega arith) ∙ sym (getD-tabulate k f i 0 h))
+
+-- WHAT THE WRITER ACCEPTS
+
+pub record Accepts (p n count : ℕ) (values events : List ℕ) (room : ℕ) : Type 0 where
+  pub given-kept : given p n count values events ≡ true
+  pub events-kept : eventsFine events count ≡ true
+  pub fits : sheetSize n count ≤ room
+
+module _ {p n count : ℕ} {values events : List ℕ} where
+  pub written-accepts : {room size : ℕ} → writtenOf p n count values events room ≡ WrittenSheet size → Accepts p n count values events room
+  unfolding writtenOf
+  written-accepts {room} {size} e = rest (go (check (writerRules p n count values events room)) e)
+    where
+      go : (c : Check) → writtenAs c (sheetSize n count) ≡ WrittenSheet size → c ≡ Passed
+      go Passed h = refl
+      go (Failed why) h = let z : _≡_ {A = ℕ} 0 1 = cc in absurd (omega arith)
+
+      rest : check (writerRules p n count values events room) ≡ Passed → Accepts p n count values events room
+      rest c =
+          let k22 = kept-on (given p n count values events) _ Counts c in
+          let k24 = kept-on (eventsFine events count) _ EventKind (k22 .1) in
+          let k25 = kept-on (test 0 (upTo room (sheetSize n count))) _ BufferShort (k24 .1) in
+          record {
+            given-kept = k22 .0;
+            events-kept = k24 .0;
+            fits = omega (arith, told 0 (upTo room (sheetSize n count)) (k25 .0));
+          }
+
+  pub accepts-written : {room : ℕ} → Accepts p n count values events room → writtenOf p n count values events room ≡ WrittenSheet (sheetSize n count)
+  unfolding writtenOf
+  accepts-written {room} a =
+      rw (a .given-kept, a .events-kept, passes 0 (upTo room (sheetSize n count)) (omega (arith, a .fits))) refl
+
+  pub accepts-buffer : (old : List ℕ) → Accepts p n count values events (length old)
+      → bufferOf p n count values events old ≡ sheetBytes p n count values events ++ drop (length (sheetBytes p n count values events)) old
+  unfolding bufferOf
+  accepts-buffer old a =
+      rw (a .given-kept, a .events-kept, passes 0 (upTo (length old) (sheetSize n count)) (omega (arith, a .fits))) refl
