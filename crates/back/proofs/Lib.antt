@@ -1,0 +1,4 @@
+pub mod Heading
+pub mod Samples
+pub mod Trips
+pub mod Values

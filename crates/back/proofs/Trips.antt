@@ -1,0 +1,235 @@
+-- THE TWO TRIPS: parts written and read again are the same; a sheet read and written again is the same from its initial values on.
+use Prim.Native.Nat.{ℕ, _+_, _-_, _*_, _/_, _%_, _<_, _≤_}
+use native.Mathlib.Omega.{arith}
+use mathlib.Core.Path.{_≡_, refl, sym, ap, ap₂, _∙_}
+use mathlib.Core.Bool.{true}
+use mathlib.Core.List.{List, [], _∷_, _++_, append-assoc}
+use lib.ListN.{getD, length, take, drop, length-append, length-take, length-drop, take-append-drop}
+use lib.Seq.{take-at, drop-at, drop-drop, getD-drop, getD-take, length-take-le, ext-getD}
+use borrow.Author.Tests.{eqb-true, eq-eqb}
+use Rattle.table.specs.Table.{tabulate}
+use Rattle.table.proofs.Tabulate.{length-tabulate, getD-tabulate}
+use Rattle.rules.specs.Claim.{Says}
+use Rattle.rules.proofs.Exact.{told, passes}
+use Rattle.sheet.specs.declared.Layout.{Layout}
+use Rattle.sheet.specs.declared.Sheet.the-variants.{Read}
+use Rattle.sheet.specs.declared.Written.the-variants.{Sheet as WrittenSheet}
+use Rattle.sheet.specs.Layout.{byte, pair, lowFirst, trailer, distance, layoutOf, valuesPart, eventsPart, eventsFine, sizeFine, tagFine, countsFine, distanceFine, givenFine, partsSize, sheetSize, sheetOf, numbers, Parts, partsOf, valueBytes, trailerBytes, sheetBytes, bytesOf}
+use Rattle.sheet.proofs.Stored.{length-value-bytes}
+use Rattle.sheet.proofs.Writing.{given, Sized, room, sheet-length}
+use Rattle.sheet.proofs.Laws.{Kept, read-kept, kept-read, Inside, read-inside, Accepts, written-accepts, accepts-written, accepts-buffer}
+use Rattle.back.specs.Back.{AllBelow, countOf, ReadAs, WrittenThenRead, ReadThenWritten, Writing, Reading}
+use Rattle.back.proofs.Values.{values-back, bytes-back, low-first}
+use Rattle.back.proofs.Heading.{heading}
+
+-- two bytes of a number below 65,536 are the number
+two-bytes : (v : ℕ) → v < 65536 → v % 256 + 256 * (v / 256 % 256) ≡ v
+two-bytes v l = omega arith
+
+-- WRITTEN, THEN READ
+module _ (x : Parts) {space : ℕ} (below : AllBelow 65536 (x .values)) (ok : Accepts (x .p) (x .n) (countOf x) (x .values) (x .events) space) where
+  sized : Sized (x .p) (x .n) (countOf x) (length (x .values)) (length (x .events))
+  sized = room (x .p) (x .n) (countOf x) (x .values) (x .events) (ok .given-kept)
+
+  abbrev front : List ℕ
+  front = valueBytes (x .values)
+
+  abbrev last : List ℕ
+  last = trailerBytes (x .p) (x .n) (countOf x)
+
+  abbrev at : Layout
+  at = record { p = x .p; n = x .n; events = countOf x; from = 0 }
+
+  front-size : length front ≡ 8 * x .n
+  front-size = omega (arith, length-value-bytes (x .values), sized .values-are)
+
+  whole-size : length (bytesOf x) ≡ sheetSize (x .n) (countOf x)
+  unfolding bytesOf
+  whole-size = sheet-length (x .p) (x .n) (countOf x) (x .values) (x .events) [] (ok .given-kept)
+
+  trailer-is : trailer (bytesOf x) ≡ last
+  unfolding bytesOf sheetBytes
+  trailer-is = drop-at (front ++ x .events) last (length (bytesOf x) - 8) (omega (arith, whole-size, length-append front (x .events), front-size, sized .events-are))
+
+  count-back : pair last 4 ≡ countOf x
+  count-back = two-bytes (countOf x) (omega (arith, sized .most))
+
+  distance-back : distance last ≡ partsSize (x .n) (countOf x)
+  distance-back = two-bytes (partsSize (x .n) (countOf x)) (omega (arith, sized .most, sized .records))
+
+  layout-is : at ≡ layoutOf (bytesOf x)
+  unfolding layoutOf
+  layout-is =
+      let z : 0 ≡ length (bytesOf x) - 8 - partsSize (x .n) (countOf x) = omega (arith, whole-size) in
+      rw (trailer-is, count-back, distance-back, ← z) refl
+
+  values-part : valuesPart (bytesOf x) at ≡ front
+  unfolding valuesPart bytesOf sheetBytes
+  values-part = rw (append-assoc front (x .events) last) (take-at front (x .events ++ last) (8 * x .n) front-size)
+
+  events-part : eventsPart (bytesOf x) at ≡ x .events
+  unfolding eventsPart bytesOf sheetBytes
+  events-part =
+      rw (append-assoc front (x .events) last, drop-at front (x .events ++ last) (0 + 8 * x .n) (omega (arith, front-size)))
+      (take-at (x .events) last (12 * countOf x) (sized .events-are))
+
+  kept : Kept (bytesOf x) at
+  kept =
+      record {
+        layout = layout-is;
+        size-kept = passes 0 (sizeFine (length (bytesOf x))) (omega (arith, whole-size), omega (arith, whole-size, sized .most, sized .records));
+        tag-kept = rw trailer-is (passes 0 (tagFine last) (refl, refl));
+        counts-kept = passes 0 (countsFine (x .p) (x .n) (countOf x)) ((omega (arith, sized .tasks), omega (arith, sized .tasks)), ((omega (arith, sized .records), omega (arith, sized .records)), omega (arith, sized .most)));
+        back-kept = rw (trailer-is, distance-back) (passes 0 (distanceFine (partsSize (x .n) (countOf x)) (x .n) (countOf x) (length (bytesOf x) - 8)) (eq-eqb (partsSize (x .n) (countOf x)) (partsSize (x .n) (countOf x)) refl, omega (arith, whole-size)));
+        events-kept = rw events-part (ok .events-kept);
+      }
+
+  parts-back : partsOf (bytesOf x) at ≡ x
+  unfolding partsOf
+  parts-back =
+      let v : numbers (4 * x .n) (valuesPart (bytesOf x) at) ≡ x .values = rw (values-part, ← sized .values-are) (values-back (x .values) below) in
+      rw (v, events-part) refl
+
+  pub written-read : WrittenThenRead x
+  written-read =
+      record {
+        headed = λ h l. let r = heading h (bytesOf x) at (kept-read kept) l in record { at = r .at; accepted = r .accepted; begins = r .begins ∙ omega arith; parts = r .parts ∙ parts-back };
+        fits = omega (arith, whole-size, sized .most, sized .records);
+      }
+
+pub writing : Writing
+writing x space size below e = written-read x below (written-accepts e)
+
+-- READ, THEN WRITTEN
+
+-- a list of eight is its eight bytes
+eight-are : (t : List ℕ) → length t ≡ 8 → _≡_ {A = List ℕ} (byte t 0 ∷ byte t 1 ∷ byte t 2 ∷ byte t 3 ∷ byte t 4 ∷ byte t 5 ∷ byte t 6 ∷ byte t 7 ∷ []) t
+unfolding tabulate
+eight-are t e =
+    ext-getD 0 (tabulate 8 (byte t)) t (length-tabulate 8 (byte t) ∙ sym e)
+    (λ i l. getD-tabulate 8 (byte t) i 0 (rw length-tabulate at l))
+
+module _ (s : List ℕ) (at : Layout) (below : AllBelow 256 s) (e : sheetOf s ≡ Read at) where
+  inside : Inside s at
+  inside = read-inside e
+
+  rules : Kept s at
+  rules = read-kept e
+
+  -- the bytes from the initial values on, in three parts
+  abbrev rest : List ℕ
+  rest = drop (at .from) s
+
+  cut : rest ≡ valuesPart s at ++ eventsPart s at ++ trailer s
+  unfolding valuesPart eventsPart
+  cut =
+      let behind-values : drop (8 * at .n) rest ≡ drop (at .from + 8 * at .n) s = drop-drop (8 * at .n) (at .from) s in
+      let k : at .from + 8 * at .n + 12 * at .events ≡ length s - 8 = omega (arith, inside .whole) in
+      let behind-events : drop (12 * at .events) (drop (at .from + 8 * at .n) s) ≡ trailer s = drop-drop (12 * at .events) (at .from + 8 * at .n) s ∙ ap (λ (j : ℕ). drop j s) k in
+      sym (take-append-drop (8 * at .n) rest)
+      ∙ ap (λ (l : List ℕ). take (8 * at .n) rest ++ l)
+      (behind-values
+      ∙ sym (take-append-drop (12 * at .events) (drop (at .from + 8 * at .n) s))
+      ∙ ap (λ (l : List ℕ). take (12 * at .events) (drop (at .from + 8 * at .n) s) ++ l) behind-events)
+      ∙ sym (append-assoc (take (8 * at .n) rest) (take (12 * at .events) (drop (at .from + 8 * at .n) s)) (trailer s))
+
+  values-size : length (valuesPart s at) ≡ 8 * at .n
+  unfolding valuesPart
+  values-size = length-take-le (8 * at .n) rest (omega (arith, length-drop (at .from) s, inside .whole))
+
+  events-size : length (eventsPart s at) ≡ 12 * at .events
+  unfolding eventsPart
+  events-size = length-take-le (12 * at .events) (drop (at .from + 8 * at .n) s) (omega (arith, length-drop (at .from + 8 * at .n) s, inside .whole))
+
+  trailer-size : length (trailer s) ≡ 8
+  trailer-size = omega (arith, length-drop (length s - 8) s, inside .whole)
+
+  values-below : AllBelow 256 (valuesPart s at)
+  unfolding valuesPart
+  values-below i l =
+      let q : i < 8 * at .n = rw values-size at l in
+      rw (getD-take (8 * at .n) rest i 0 q, getD-drop (at .from) s i 0) (below (at .from + i) (omega (arith, inside .whole)))
+
+  trailer-below : (i : ℕ) → i < 8 → byte (trailer s) i < 256
+  trailer-below i l = rw (getD-drop (length s - 8) s i 0) (below (length s - 8 + i) (omega (arith, inside .whole)))
+
+  values-written : valueBytes (numbers (4 * at .n) (valuesPart s at)) ≡ valuesPart s at
+  values-written = bytes-back (4 * at .n) (valuesPart s at) (omega (arith, values-size)) values-below
+
+  count-is : length (eventsPart s at) / 12 ≡ at .events
+  count-is = omega (arith, events-size)
+
+  -- the trailer's bytes, by what its tests say
+  tag-told : (byte (trailer s) 0 ≡ 82) × (byte (trailer s) 1 ≡ 83)
+  tag-told =
+      let q = told 0 (tagFine (trailer s)) (rules .tag-kept) in
+      (eqb-true (byte (trailer s) 0) 82 (q .0), eqb-true (byte (trailer s) 1) 83 (q .1))
+
+  distance-told : distance (trailer s) ≡ partsSize (at .n) (at .events)
+  distance-told =
+      eqb-true (distance (trailer s)) (partsSize (at .n) (at .events))
+      (told 0 (distanceFine (distance (trailer s)) (at .n) (at .events) (length s - 8)) (rules .back-kept) .0)
+
+  p-is : at .p ≡ byte (trailer s) 2
+  unfolding layoutOf
+  p-is = ap (λ (y : Layout). y .p) (rules .layout)
+
+  n-is : at .n ≡ byte (trailer s) 3
+  unfolding layoutOf
+  n-is = ap (λ (y : Layout). y .n) (rules .layout)
+
+  events-is : at .events ≡ pair (trailer s) 4
+  unfolding layoutOf
+  events-is = ap (λ (y : Layout). y .events) (rules .layout)
+
+  trailer-written : trailerBytes (at .p) (at .n) (at .events) ≡ trailer s
+  trailer-written =
+      let t = trailer s in
+      let heads : _≡_ {A = List ℕ} (82 ∷ 83 ∷ at .p ∷ at .n ∷ []) (byte t 0 ∷ byte t 1 ∷ byte t 2 ∷ byte t 3 ∷ []) =
+      rw (tag-told .0, tag-told .1, p-is, n-is) refl
+      in
+      let count : lowFirst (at .events) ≡ byte t 4 ∷ byte t 5 ∷ [] =
+      ap lowFirst events-is ∙ low-first (byte t 4) (byte t 5) (trailer-below 4 (omega arith)) (trailer-below 5 (omega arith))
+      in
+      let back : lowFirst (partsSize (at .n) (at .events)) ≡ byte t 6 ∷ byte t 7 ∷ [] =
+      ap lowFirst (sym distance-told) ∙ low-first (byte t 6) (byte t 7) (trailer-below 6 (omega arith)) (trailer-below 7 (omega arith))
+      in
+      ap₂ _++_ (ap₂ _++_ heads count) back ∙ eight-are t trailer-size
+
+  sheet-again : sheetBytes (at .p) (at .n) (at .events) (numbers (4 * at .n) (valuesPart s at)) (eventsPart s at) ≡ rest
+  unfolding sheetBytes
+  sheet-again = rw (values-written, trailer-written) (sym cut)
+
+  written-again : bytesOf (partsOf s at) ≡ rest
+  unfolding bytesOf partsOf
+  written-again = rw count-is sheet-again
+
+  -- the writer accepts the parts
+  rest-size : length rest ≡ sheetSize (at .n) (at .events)
+  rest-size = omega (arith, length-drop (at .from) s, inside .whole)
+
+  accepts : (space : ℕ) → length rest ≤ space
+      → Accepts (at .p) (at .n) (at .events) (numbers (4 * at .n) (valuesPart s at)) (eventsPart s at) space
+  unfolding numbers
+  accepts space l =
+      let values-are : length (numbers (4 * at .n) (valuesPart s at)) ≡ 4 * at .n = length-tabulate (4 * at .n) (λ i. pair (valuesPart s at) (2 * i)) in
+      let counts = told 0 (countsFine (at .p) (at .n) (at .events)) (rules .counts-kept) in
+      record {
+        given-kept =
+            passes 0 (givenFine (at .p) (at .n) (at .events) (length (numbers (4 * at .n) (valuesPart s at))) (length (eventsPart s at)))
+            (counts, (eq-eqb (length (numbers (4 * at .n) (valuesPart s at))) (4 * at .n) values-are, eq-eqb (length (eventsPart s at)) (12 * at .events) events-size));
+        events-kept = rules .events-kept;
+        fits = omega (arith, rest-size);
+      }
+
+  pub read-written : ReadThenWritten s at
+  unfolding partsOf
+  read-written =
+      record {
+        bytes = written-again;
+        answer = λ space l. rw (count-is, rest-size) (accepts-written (accepts space l));
+        buffer = λ old l. rw count-is (accepts-buffer old (accepts (length old) l) ∙ ap (λ (b : List ℕ). b ++ drop (length b) old) sheet-again);
+      }
+
+pub reading : Reading
+reading = read-written
