@@ -1,1 +1,3 @@
 pub mod Same
+pub mod Glue
+pub mod Room

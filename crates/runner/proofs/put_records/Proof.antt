@@ -1,55 +1,55 @@
-use borrow.Author.Tests.{le-ltb}
+-- `runner::put_records` meets its contract.
+use Prim.Native.Nat.{_*_, _≤_, _-_}
+use native.Mathlib.Omega.{arith}
+use mathlib.Core.Path.{_≡_}
+use lib.ListN.{length}
+use borrow.Author.Needs.{needs}
+use Rattle.text.specs.Text.{joined}
+use Rattle.text.proofs.Laws.{Puts, first, again, done}
+use Rattle.text.proofs.Most.{most-none, most-again}
+use Rattle.runner.specs.Run.{recordLineAt}
 use Rattle.runner.proofs.put_records.Statement.{statement}
 use Rattle.runner.proofs.put_records.Tie as tie
-use Rattle.runner.proofs.put_records.Reads as reads
-use Rattle.runner.proofs.put_records.Lts as lts
-use Rattle.lines.proofs.put_record.Reads as put-record-reads
 
 abbrev Inv-loop : tie.InvT-loop
-Inv-loop out₀ at n m next₀ r₀ out next r = ?
+Inv-loop out₀ at n m next₀ r₀ out next r = (r ≤ n) × Puts (recordLineAt m) r out₀ at out next × (length (joined (recordLineAt m) r) ≤ 38 * r)
 
 abbrev μ-loop : tie.MeasureT-loop
-μ-loop out₀ at n m next₀ r₀ out next r = ?
+μ-loop out₀ at n m next₀ r₀ out next r = n - r
 
--- src/lib.rt:37:5
 loop-holds : tie.Need-loop-holds Inv-loop μ-loop
-loop-holds c = ?
+loop-holds c = (search needs, first, most-none (recordLineAt (c .before .args .t3)) 38)
 
--- src/lib.rt:38:29
 cast-rec : tie.Need-cast-rec Inv-loop μ-loop
-cast-rec c = ?
+cast-rec c = search needs
 
--- src/lib.rt:38:19
 mul-rec : tie.Need-mul-rec Inv-loop μ-loop
-mul-rec c = ?
+mul-rec c = search needs
 
--- src/lib.rt:38:19
 element-copy-out-rec : tie.Need-element-copy-out-rec Inv-loop μ-loop
-element-copy-out-rec c = ?
+element-copy-out-rec c = search needs
 
--- src/lib.rt:39:9
 put-record-requires : tie.Need-put-record-requires Inv-loop μ-loop
-put-record-requires c κs = ?
+put-record-requires c κs = search needs
 
--- src/lib.rt:40:9
 add-r : tie.Need-add-r Inv-loop μ-loop
-add-r c = ?
+add-r c = search needs
 
--- src/lib.rt:37:5
 loop-less : tie.Need-loop-less Inv-loop μ-loop
-loop-less c = ?
+loop-less c = search needs
 
--- src/lib.rt:37:5
 loop-again : tie.Need-loop-again Inv-loop μ-loop
-loop-again c = ?
+loop-again c = (
+  search needs,
+  again (c .before .before .before .before .before .before .loop .inv .1) (c .before .before .put-record .ensures .0),
+  most-again (recordLineAt (c .before .before .before .before .before .before .before .before .args .t3)) 38 _ (c .before .before .before .before .before .before .loop .inv .2) (c .before .before .put-record .ensures .1),
+)
 
--- src/lib.rt:31:1
 same-length : tie.Need-same-length Inv-loop μ-loop
-same-length c = ?
+same-length c = search needs
 
--- src/lib.rt:31:1
 returns : tie.Need-returns Inv-loop μ-loop
-returns c = simp (le-ltb _ _ (c .loop-test .left))
+returns c = (done (c .before .loop .inv .1) (omega arith), (let e : c .before .loop .r ≡ c .before .before .before .args .n = omega arith in rw e at (c .before .loop .inv .2)))
 
 pub put-records-spec : {M : Type 1} → statement M
 put-records-spec =
