@@ -1,10 +1,14 @@
 -- The lent buffer: too short, it is refused and as it was; else the text stands at its front, and it all fits.
-use Prim.Native.Nat.{ℕ, _≤_, _<_}
+use Prim.Native.Nat.{ℕ, _+_, _≤_, _<_}
 use native.Mathlib.Nat.{le-trans}
+use native.Mathlib.Omega.{arith}
+use mathlib.Core.Bool.{Bool, true, false}
 use mathlib.Core.Path.{_≡_, refl, sym, ap, _∙_}
-use mathlib.Core.List.{List}
-use lib.ListN.{length}
+use mathlib.Core.List.{List, _++_}
+use lib.Dec.{leb}
+use lib.ListN.{length, drop, length-append}
 use borrow.Author.Tests.{le-leb, lt-leb}
+use Rattle.table.specs.Table.{pick}
 use Rattle.rules.specs.Words.{BufferShort}
 use Rattle.sheet.specs.declared.Sheet.{Sheet}
 use Rattle.sheet.specs.Layout.{sheetOf}
@@ -25,3 +29,15 @@ module _ (s old : List ℕ) (x : Sheet) (e : x ≡ sheetOf s) where
   printed new r h put =
       let fits = le-trans (put .1) h in
       (rw (← e, le-leb (roomAs x) (length old) h) (ap Text (reached (put .0) fits)), rw (← e, le-leb (roomAs x) (length old) h) (whole (put .0) fits))
+
+-- what a caller is told to read lies in the buffer
+pub in-buffer : (s old new : List ℕ) (o : Ran) (n : ℕ) → (o ≡ ranOf s (length old)) × (new ≡ printedOf s old) → length new ≡ length old → o ≡ Text n → n ≤ length new
+unfolding ranOf printedOf
+in-buffer s old new o n said kept told = go (leb (roomAs (sheetOf s)) (length old)) (sym told ∙ said .0) (said .1)
+  where
+    go : (b : Bool) → Text n ≡ pick b (Text (length (textOf s))) (Refused BufferShort) → new ≡ pick b (textOf s ++ drop (length (textOf s)) old) old → n ≤ length new
+    go true e f =
+        let k : n ≡ length (textOf s) = cc in
+        let l : length new ≡ length (textOf s) + length (drop (length (textOf s)) old) = ap length f ∙ length-append (textOf s) _ in
+        omega arith
+    go false e f = let z : _≡_ {A = ℕ} 0 1 = cc in absurd (omega arith)
