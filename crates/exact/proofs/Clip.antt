@@ -11,7 +11,7 @@ use Rattle.table.specs.declared.Link.{Link}
 use Rattle.table.specs.Table.{pick, noLink, slot}
 use Rattle.rules.specs.Step.{dropped, dropFirst}
 use Rattle.rules.specs.Claim.{both, allBelow}
-use Rattle.turns.specs.Turn.{clip, linksOf}
+use Rattle.hand.specs.Hand.{clip, linksOf}
 
 -- a choice whose first side matters only where the test passes
 pub pick-same : {A : Type 0} (b : Bool) (x y z : A) → (b ≡ true → x ≡ y) → pick b x z ≡ pick b y z

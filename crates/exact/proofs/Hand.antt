@@ -17,8 +17,8 @@ use Rattle.refuse.specs.Linked.{linkedIn}
 use Rattle.begin.specs.declared.Begun.{Begun}
 use Rattle.begin.specs.Begun.{nextNumber, begunBy}
 use Rattle.act.specs.Act.{actOf}
-use Rattle.turns.specs.Turn.{clip, linksOf, refusalIn, putStart, begunIn, startIn, putStep, actIn, stepWith, changeNo, stepIn, acceptedIn}
-use Rattle.hand.specs.Hand.{numberOf, keptBy, begunOf, steppedOf, passedOf, checkedOf, turnOf, handAt, putTurn, turnWith, turnIn}
+use Rattle.exact.specs.Turn.{refusalIn, putStart, begunIn, startIn, putStep, actIn, stepWith, changeNo, stepIn, acceptedIn}
+use Rattle.hand.specs.Hand.{clip, linksOf, numberOf, keptBy, begunOf, steppedOf, passedOf, checkedOf, turnOf, handAt, putTurn, turnWith, turnIn}
 use Rattle.exact.proofs.Turn.{is-refused, is-accepted}
 
 module _ (m : Machine) (t c : ℕ) (a : Access) (r : ℕ) where

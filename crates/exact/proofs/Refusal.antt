@@ -22,7 +22,8 @@ use Rattle.rules.specs.Shape.{within, exist, apart, InShape}
 use Rattle.rules.specs.Refuse.{inside, isIdle, check, rules, idleAt, linkedAt}
 use Rattle.rules.proofs.Exact.{told}
 use Rattle.refuse.specs.Linked.{theres, linkedIn}
-use Rattle.turns.specs.Turn.{linksOf, refusalIn}
+use Rattle.hand.specs.Hand.{linksOf}
+use Rattle.exact.specs.Turn.{refusalIn}
 use Rattle.keeps.proofs.Bounds.{p≤8, n≤32}
 use Rattle.exact.proofs.Clip.{pick-same, all-same, near}
 

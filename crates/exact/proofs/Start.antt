@@ -27,7 +27,8 @@ use Rattle.rules.specs.Refuse.{rules, idleAt, linkedAt}
 use Rattle.rules.specs.Next.{started}
 use Rattle.begin.specs.declared.Begun.{Begun}
 use Rattle.begin.specs.Begun.{nextNumber, infoIn, infosIn, oldIn, filledBy, begunBy}
-use Rattle.turns.specs.Turn.{clip, linksOf, putStart, begunIn, startIn}
+use Rattle.hand.specs.Hand.{clip, linksOf}
+use Rattle.exact.specs.Turn.{putStart, begunIn, startIn}
 use Rattle.keeps.proofs.Obeyed.{Obeyed}
 use Rattle.keeps.proofs.Bounds.{p≤8, n≤32}
 use Rattle.exact.proofs.Clip.{pick-same, drop-same, clip-same, near}

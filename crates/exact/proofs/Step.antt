@@ -22,7 +22,8 @@ use Rattle.rules.specs.Resume.{resume}
 use Rattle.rules.specs.Step.{taskBy, linkBy, dropFirst, settle, accessAt, moveAt, step}
 use Rattle.rules.specs.Shape.{InShape}
 use Rattle.act.specs.Act.{actOf}
-use Rattle.turns.specs.Turn.{clip, putStep, actIn, stepWith, changeNo, stepIn}
+use Rattle.hand.specs.Hand.{clip}
+use Rattle.exact.specs.Turn.{putStep, actIn, stepWith, changeNo, stepIn}
 use Rattle.keeps.proofs.Bounds.{task<8, record<32, list<32}
 use Rattle.exact.proofs.Clip.{drop-same, clip-same}
 

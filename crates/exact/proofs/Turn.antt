@@ -17,7 +17,7 @@ use Rattle.rules.specs.Shape.{shape, inShape, InShape}
 use Rattle.rules.specs.Refuse.{check, rules, idleAt, linkedAt, rulesOf}
 use Rattle.rules.specs.Next.{refused, accepted, answered, next}
 use Rattle.rules.proofs.Exact.{told}
-use Rattle.turns.specs.Turn.{refusalIn, acceptedIn}
+use Rattle.exact.specs.Turn.{refusalIn, acceptedIn}
 use Rattle.keeps.proofs.Obeyed.{Obeyed, passed}
 use Rattle.exact.proofs.Refusal.{refusal-is}
 use Rattle.exact.proofs.Start.{start-is}

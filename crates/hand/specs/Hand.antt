@@ -1,9 +1,10 @@
--- A call on what it has in hand, and put in place in the table. `next` of the rules says the same of a table in shape (proofs/Turn).
+-- A call on what it has in hand, and put in place in the table, every index clipped, so that none is out of range whatever the state. In
+-- a state in shape no index is altered by that, and the call is `next` of the rules (the crate exact).
 use Prim.Native.Nat.{ℕ, _%_}
-use mathlib.Core.List.{List}
-use lib.ListN.{set}
+use mathlib.Core.List.{List, [], _∷_, map}
+use lib.ListN.{getD, set}
 use Rattle.rules.specs.Words.{Record, Change, Place, Task, Link, Machine, Ask, AskLlx, AskScx, AskVlx, AskRead, AskStep, Call, Refusal, Accepted, Refused, Out, Access, Check, Passed, Failed}
-use Rattle.table.specs.Table.{noCells, recordAt, changeAt, taskAt, slot, linkAt}
+use Rattle.table.specs.Table.{noCells, noLink, recordAt, changeAt, taskAt, slot, linkAt}
 use Rattle.rules.specs.Access.{changeOf, accessOf, recordOf}
 use Rattle.rules.specs.Step.{dropFirst}
 use Rattle.rules.specs.Refuse.{isIdle, check, rules}
@@ -12,7 +13,6 @@ use Rattle.begin.specs.declared.Begun.{Begun}
 use Rattle.begin.specs.Begun.{nextNumber, begunBy}
 use Rattle.act.specs.declared.Stored.{Stored}
 use Rattle.act.specs.Act.{actOf}
-use Rattle.turns.specs.Turn.{clip, linksOf}
 use Rattle.hand.specs.declared.Hand.{Hand}
 use Rattle.hand.specs.declared.Turned.{Turned}
 
@@ -87,6 +87,19 @@ turnOf h e =
     h
     e
 
+-- a list with each record number below 32
+abbrev pub clip : List ℕ → List ℕ
+clip l = map (λ r. r % 32) l
+
+-- the links of task t to the four records of a list
+abbrev pub linksOf : List Link → ℕ → List ℕ → List Link
+linksOf ls t l =
+    getD ls (slot t (getD l 0 0 % 32)) noLink
+    ∷ getD ls (slot t (getD l 1 0 % 32)) noLink
+    ∷ getD ls (slot t (getD l 2 0 % 32)) noLink
+    ∷ getD ls (slot t (getD l 3 0 % 32)) noLink
+    ∷ []
+
 -- what a call of task t has in hand: change c, access a, record r
 abbrev pub handAt : Machine → ℕ → List ℕ → ℕ → Access → ℕ → Hand
 handAt m t l c a r =
@@ -122,7 +135,7 @@ putTurn m t c r d =
 unfoldable pub turnWith : Machine → Call → ℕ → ℕ → Access → ℕ → Out
 turnWith m e t c a r = putTurn m t c r (turnOf (handAt m t (e .list) c a r) e)
 
--- a call, every index clipped
+-- THE CALL
 unfoldable pub turnIn : Machine → Call → Out
 turnIn m e =
     let t = e .task % 8 in

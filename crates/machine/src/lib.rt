@@ -6,7 +6,6 @@ use table::Answer;
 use table::Ask;
 use table::Call;
 use table::Cell;
-use table::Check;
 use table::List;
 use table::Machine;
 use table::Out;
@@ -27,11 +26,7 @@ pub fn call(m: Machine, e: Call) -> Out
     ensures { λ o. ⌜ o ≡ rules.next m e ⌝ }
 {
     if shape::in_shape(m) {
-        let c = turns::refusal_in(m, e);
-        match c {
-            Check::Passed => turns::accepted_in(m, e),
-            Check::Failed { why } => refused(m, why),
-        }
+        turns::turn_in(m, e)
     } else {
         refused(m, Refusal::OutOfShape)
     }

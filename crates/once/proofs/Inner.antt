@@ -54,10 +54,8 @@ use Rattle.begin.proofs.start.Kinds as begin-start-kinds
 use Rattle.begin.proofs.start.Reads as begin-start-reads
 use Rattle.act.proofs.act.Kinds as act-act-kinds
 use Rattle.act.proofs.act.Reads as act-act-reads
-use Rattle.turns.proofs.refusal_in.Kinds as turns-refusal-in-kinds
-use Rattle.turns.proofs.refusal_in.Reads as turns-refusal-in-reads
-use Rattle.turns.proofs.accepted_in.Kinds as turns-accepted-in-kinds
-use Rattle.turns.proofs.accepted_in.Reads as turns-accepted-in-reads
+use Rattle.turns.proofs.turn_in.Kinds as turns-turn-in-kinds
+use Rattle.turns.proofs.turn_in.Reads as turns-turn-in-reads
 use Rattle.answers.proofs.refusal_number.Kinds as answers-refusal-number-kinds
 use Rattle.answers.proofs.refusal_number.Reads as answers-refusal-number-reads
 use Rattle.answers.proofs.number_of.Kinds as answers-number-of-kinds
@@ -145,11 +143,8 @@ begin-start κs a o p s t e f = e ∙ sym f
 pub act-act : Once 0 act-act-kinds.ps act-act-kinds.r act-act-reads.Post
 act-act κs a o p s t e f = e ∙ sym f
 
-pub turns-refusal-in : Once 0 turns-refusal-in-kinds.ps turns-refusal-in-kinds.r turns-refusal-in-reads.Post
-turns-refusal-in κs a o p s t e f = e ∙ sym f
-
-pub turns-accepted-in : Once 0 turns-accepted-in-kinds.ps turns-accepted-in-kinds.r turns-accepted-in-reads.Post
-turns-accepted-in κs a o p s t e f = e ∙ sym f
+pub turns-turn-in : Once 0 turns-turn-in-kinds.ps turns-turn-in-kinds.r turns-turn-in-reads.Post
+turns-turn-in κs a o p s t e f = e ∙ sym f
 
 pub answers-refusal-number : Once 0 answers-refusal-number-kinds.ps answers-refusal-number-kinds.r answers-refusal-number-reads.Post
 answers-refusal-number κs a o p s t e f = e ∙ sym f

@@ -8,7 +8,6 @@ use Rattle.rules.specs.Words.{Link, Machine, Access, Call, Answer, Cell, Out}
 use Rattle.table.specs.Table.{noLink, recordAt, changeAt, taskAt, slot, linkAt}
 use Rattle.rules.specs.Access.{accessOf, recordOf}
 use Rattle.rules.specs.Step.{dropped, dropFirst}
-use Rattle.turns.specs.Turn.{clip}
 use Rattle.hand.specs.declared.Hand.{Hand}
 use Rattle.hand.specs.declared.Turned.{Turned}
 use Rattle.hand.specs.Hand.{numberOf, turnOf, putTurn, turnWith, turnIn}
@@ -24,83 +23,6 @@ use Rattle.text.proofs.Most.{most-none, most-again}
 use Rattle.lines.specs.Lines.{answerLine}
 use Rattle.play.specs.declared.Played.{Played}
 use Rattle.play.specs.Play.{turnsTo, turnAt, toldIn, lineIn, Plays}
-
--- THE LINKS THAT A CALL DROPS, one by one
-pub lost : Machine → ℕ → List ℕ → ℕ → Machine
-lost m t l j =
-    record {
-      p = m .p;
-      n = m .n;
-      used = m .used;
-      records = m .records;
-      changes = m .changes;
-      tasks = m .tasks;
-      links = dropFirst (m .links) t (clip l) j;
-    }
-
-pub none-lost : (m : Machine) (t : ℕ) (l : List ℕ) → m ≡ lost m t l 0
-unfolding lost dropFirst
-none-lost m t l = refl
-
--- the machine with one link altered
-abbrev pub withLink : Machine → ℕ → Link → Machine
-withLink m at k =
-    record {
-      p = m .p;
-      n = m .n;
-      used = m .used;
-      records = m .records;
-      changes = m .changes;
-      tasks = m .tasks;
-      links = set (m .links) at k;
-    }
-
-pub one-more-lost : (m now : Machine) (t : ℕ) (l : List ℕ) (j r : ℕ) → now ≡ lost m t l j → r ≡ getD l j 0
-    → withLink now (slot t (r % 32)) (dropped (getD (now .links) (slot t (r % 32)) noLink)) ≡ lost m t l (j + 1)
-unfolding lost dropFirst
-one-more-lost m now t l j r e er = rw (er, e, add-one, List·getD-map (λ r. r % 32) l j 0) refl
-
--- THE TURN, stored in place
-abbrev pub stored : Machine → ℕ → ℕ → ℕ → Turned → Machine
-stored m t c r d =
-    record {
-      p = m .p;
-      n = m .n;
-      used = d .used;
-      records = set (m .records) r (d .rec);
-      changes = set (m .changes) c (d .change);
-      tasks = set (m .tasks) t (d .task);
-      links = set (m .links) (slot t r) (d .link);
-    }
-
--- what a call has in hand, its links found by the numbers of the list
-abbrev pub handBy : Machine → ℕ → ℕ → Access → ℕ → (q0 q1 q2 q3 : ℕ) → Hand
-handBy m t c a r q0 q1 q2 q3 =
-    record {
-      p = m .p;
-      n = m .n;
-      used = m .used;
-      task = taskAt m t;
-      access = a;
-      change = changeAt m c;
-      rec = recordAt m r;
-      link = linkAt m t r;
-      near = linkAt m t (q0 % 32) ∷ linkAt m t (q1 % 32) ∷ linkAt m t (q2 % 32) ∷ linkAt m t (q3 % 32) ∷ [];
-    }
-
-pub turned : (m : Machine) (e : Call) (c : ℕ) (a : Access) (r q0 q1 q2 q3 : ℕ) (d : Turned) (after : Machine)
-    → c ≡ numberOf (e .ask) (m .used) (taskAt m (e .task % 8) .place)
-    → a ≡ accessOf (taskAt m (e .task % 8) .place) (changeAt m c) (taskAt m (e .task % 8) .list)
-    → r ≡ recordOf a
-    → q0 ≡ getD (e .list) 0 0
-    → q1 ≡ getD (e .list) 1 0
-    → q2 ≡ getD (e .list) 2 0
-    → q3 ≡ getD (e .list) 3 0
-    → d ≡ turnOf (handBy m (e .task % 8) c a (r % 32) q0 q1 q2 q3) e
-    → after ≡ lost (stored m (e .task % 8) c (r % 32) d) (e .task % 8) (d .list) (d .drop)
-    → _≡_ {A = Out} (record { m = after; answer = d .answer; cells = d .cells }) (turnIn m e)
-unfolding turnIn turnWith putTurn lost
-turned m e c a r q0 q1 q2 q3 d after ec ea er e0 e1 e2 e3 ed el = rw (el, ed, e0, e1, e2, e3, er, ea, ec) refl
 
 -- THE RUN SO FAR: what holds in the loop, before the first turn, after one more, at the end
 pub record Along (m₀ : Machine) (es old : List ℕ) (i : ℕ) (new : List ℕ) (m : Machine) (t : Tally) (next : ℕ) : Type 0 where

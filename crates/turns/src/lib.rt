@@ -1,23 +1,16 @@
-// A turn of the table, by value: the refusals of a call, a start, a step. Every index is clipped, so that each function ends with
-// nothing undefined on any state; in a state in shape no index is altered by that.
+// A turn of the table, by value: a call on what it has in hand, and what it leaves put in place. Every index is clipped, so that a turn
+// ends with nothing undefined on any state; in a state in shape no index is altered by that.
 ghost use mathlib.Core.Path.{_≡_};
 ghost use Prim.Native.Nat.{_%_};
 ghost use Rattle.rules.specs.Step.{dropFirst};
-ghost use Rattle.turns.specs.Turn.{clip, linksOf, refusalIn, startIn, stepIn, acceptedIn};
-use begin::Begun;
+ghost use Rattle.hand.specs.Hand.{clip, linksOf, turnIn};
 use begin::Links;
-use table::Answer;
-use table::Ask;
+use hand::Hand;
 use table::Call;
-use table::Cell;
-use table::Check;
 use table::Link;
 use table::List;
 use table::Machine;
 use table::Out;
-use table::Place;
-use table::Record;
-use table::Task;
 
 // The links of a task to the four records of a list.
 fn links_of(links: [Link; Machine::LINKS], t: u8, list: List) -> Links
@@ -48,79 +41,51 @@ fn drop_links(links: [Link; Machine::LINKS], t: u8, list: List, n: u8) -> [Link;
     left
 }
 
-// The first refusal from 11 on that applies to a call.
-pub fn refusal_in(m: Machine, e: Call) -> Check
-    ensures { λ o. ⌜ o ≡ refusalIn m e ⌝ }
+// Any call of a state in shape: its refusals from 11 on, else the start or the step.
+pub fn turn_in(m: Machine, e: Call) -> Out
+    ensures { λ o. ⌜ o ≡ turnIn m e ⌝ }
 {
     let t = e.task;
     let ask = e.ask;
-    let list = e.list;
-    let k = t as usize % Machine::TASKS;
-    let task = m.tasks[k];
-    let place = task.place;
-    let links = m.links;
-    let near = links_of(links, t, list);
-    let linked = refuse::linked(ask, near);
-    let idle = access::is_idle(place);
-    refuse::refusal(e, m.p, m.n, m.used, idle, linked)
-}
-
-// The start of an operation that passed its refusals.
-fn start_in(m: Machine, e: Call) -> Out
-    ensures { λ o. ⌜ o ≡ startIn m e ⌝ }
-{
-    let t = e.task;
-    let list = e.list;
-    let k = t as usize % Machine::TASKS;
-    let task = m.tasks[k];
-    let c = begin::next_number(m.used) as usize;
-    let ch = m.changes[c];
-    let links = m.links;
-    let near = links_of(links, t, list);
-    let b = begin::start(e, m.used, task, ch, near);
-    let gone = b.list;
-    let left = drop_links(links, t, gone, b.drop);
-    let change = b.change;
-    let next = b.task;
-    let mut out = m;
-    out.used = b.used;
-    out.changes[c] = change;
-    out.tasks[k] = next;
-    out.links = left;
-    Out {
-        m: out,
-        answer: Answer::Accepted,
-        cells: [Cell { value: 0, stamp: 0 }; Machine::FIELDS],
-    }
-}
-
-// A step: one record, one change, one task and one link are stored, altered or as they were.
-fn step_in(m: Machine, t: u8) -> Out
-    ensures { λ o. ⌜ o ≡ stepIn m (t % 8) ⌝ }
-{
+    let named = e.list;
     let k = t as usize % Machine::TASKS;
     let task = m.tasks[k];
     let place = task.place;
     let list = task.list;
-    let c = access::change_of(place) as usize;
-    let ch = m.changes[c];
-    let a = access::access_of(place, ch, list);
-    let r = access::record_of(a) as usize % Machine::RECORDS;
+    let c = hand::number_of(ask, m.used, place) as usize;
+    let change = m.changes[c];
+    let access = access::access_of(place, change, list);
+    let r = access::record_of(access) as usize % Machine::RECORDS;
     let rec = m.records[r];
     let at = k * Machine::RECORDS + r;
     let link = m.links[at];
-    let d = act::act(task, a, ch, rec, link);
+    let links = m.links;
+    let near = links_of(links, t, named);
+    let h = Hand {
+        p: m.p,
+        n: m.n,
+        used: m.used,
+        task,
+        access,
+        change,
+        rec,
+        link,
+        near,
+    };
+    let d = hand::turn(h, e);
     let rec2 = d.rec;
-    let change = d.change;
+    let change2 = d.change;
     let task2 = d.task;
     let link2 = d.link;
+    let gone = d.list;
     let mut out = m;
+    out.used = d.used;
     out.records[r] = rec2;
-    out.changes[c] = change;
+    out.changes[c] = change2;
     out.tasks[k] = task2;
     out.links[at] = link2;
-    let links = out.links;
-    let left = drop_links(links, t, list, d.drop);
+    let held = out.links;
+    let left = drop_links(held, t, gone, d.drop);
     out.links = left;
     let answer = d.answer;
     let cells = d.cells;
@@ -128,19 +93,5 @@ fn step_in(m: Machine, t: u8) -> Out
         m: out,
         answer,
         cells,
-    }
-}
-
-// What a call that passed its refusals does.
-pub fn accepted_in(m: Machine, e: Call) -> Out
-    ensures { λ o. ⌜ o ≡ acceptedIn m e ⌝ }
-{
-    let ask = e.ask;
-    match ask {
-        Ask::Llx { .. } => start_in(m, e),
-        Ask::Scx { .. } => start_in(m, e),
-        Ask::Vlx { .. } => start_in(m, e),
-        Ask::Read { .. } => start_in(m, e),
-        Ask::Step => step_in(m, e.task),
     }
 }

@@ -1,6 +1,6 @@
 -- `turns::drop_links` meets its contract.
 use Rattle.turns.proofs.Glue.{drop-none, drop-more}
-use Rattle.turns.specs.Turn.{clip}
+use Rattle.hand.specs.Hand.{clip}
 use Rattle.rules.specs.Step.{dropFirst}
 use borrow.Author.Needs.{needs}
 use mathlib.Core.Path.{_≡_}

@@ -1,10 +1,10 @@
--- What the code of a turn computes on any table: its indices are clipped, so that none is out of range whatever the state. In a state
--- in shape no index is altered by that, and these are the rules' own `check`, `start` and `step` (the crate exact).
+-- A call in hand, taken apart: its refusal, its start, its step, each with clipped indices. In a state in shape these are the rules' own
+-- `check`, `start` and `step` (proofs/Refusal, Start, Step), and `turnIn` is made of them (proofs/Hand).
 use Prim.Native.Nat.{ℕ, _%_}
-use mathlib.Core.List.{List, [], _∷_, map}
-use lib.ListN.{getD, set}
+use mathlib.Core.List.{List}
+use lib.ListN.{set}
+use Rattle.hand.specs.Hand.{clip, linksOf}
 use Rattle.table.specs.declared.Machine.{Machine}
-use Rattle.table.specs.declared.Link.{Link}
 use Rattle.table.specs.declared.Access.{Access}
 use Rattle.table.specs.declared.Ask.{Ask}
 use Rattle.table.specs.declared.Ask.the-variants.{Llx as AskLlx, Scx as AskScx, Vlx as AskVlx, Read as AskRead, Step as AskStep}
@@ -12,7 +12,7 @@ use Rattle.table.specs.declared.Call.{Call}
 use Rattle.table.specs.declared.Answer.the-variants.{Accepted}
 use Rattle.table.specs.declared.Out.{Out}
 use Rattle.table.specs.declared.Check.{Check}
-use Rattle.table.specs.Table.{noCells, noLink, recordAt, changeAt, taskAt, slot, linkAt}
+use Rattle.table.specs.Table.{noCells, recordAt, changeAt, taskAt, slot, linkAt}
 use Rattle.rules.specs.Access.{changeOf, recordOf}
 use Rattle.rules.specs.Step.{dropFirst, accessAt}
 use Rattle.rules.specs.Refuse.{isIdle, check, rules}
@@ -21,19 +21,6 @@ use Rattle.act.specs.Act.{actOf}
 use Rattle.begin.specs.declared.Begun.{Begun}
 use Rattle.refuse.specs.Linked.{linkedIn}
 use Rattle.begin.specs.Begun.{nextNumber, begunBy}
-
--- a list with each record number below 32
-abbrev pub clip : List ℕ → List ℕ
-clip l = map (λ r. r % 32) l
-
--- the links of task t to the four records of a list
-abbrev pub linksOf : List Link → ℕ → List ℕ → List Link
-linksOf ls t l =
-    getD ls (slot t (getD l 0 0 % 32)) noLink
-    ∷ getD ls (slot t (getD l 1 0 % 32)) noLink
-    ∷ getD ls (slot t (getD l 2 0 % 32)) noLink
-    ∷ getD ls (slot t (getD l 3 0 % 32)) noLink
-    ∷ []
 
 unfoldable pub refusalIn : Machine → Call → Check
 refusalIn m e =

@@ -1,8 +1,11 @@
--- `turns::step_in` meets its contract.
-use Rattle.turns.proofs.Glue.{step-is}
+-- `turns::turn_in` meets its contract.
 use borrow.Author.Needs.{needs}
-use Rattle.turns.proofs.step_in.Statement.{statement}
-use Rattle.turns.proofs.step_in.Tie as tie
+use Rattle.hand.proofs.Stored.{lost-is, turned}
+use Rattle.turns.proofs.turn_in.Statement.{statement}
+use Rattle.turns.proofs.turn_in.Tie as tie
+
+cast-k : tie.Need-cast-k
+cast-k c = search needs
 
 mul-task : tie.Need-mul-task
 mul-task c = search needs
@@ -10,17 +13,17 @@ mul-task c = search needs
 element-copy-out-task : tie.Need-element-copy-out-task
 element-copy-out-task c = search needs
 
-change-of-requires : tie.Need-change-of-requires
-change-of-requires c κs = search needs
+number-of-requires : tie.Need-number-of-requires
+number-of-requires c κs = search needs
 
 cast-c : tie.Need-cast-c
 cast-c c = search needs
 
-mul-ch : tie.Need-mul-ch
-mul-ch c = search needs
+mul-change : tie.Need-mul-change
+mul-change c = search needs
 
-element-copy-out-ch : tie.Need-element-copy-out-ch
-element-copy-out-ch c = search needs
+element-copy-out-change : tie.Need-element-copy-out-change
+element-copy-out-change c = search needs
 
 access-of-requires : tie.Need-access-of-requires
 access-of-requires c κs = search needs
@@ -49,8 +52,11 @@ mul-link c = search needs
 element-copy-out-link : tie.Need-element-copy-out-link
 element-copy-out-link c = search needs
 
-act-requires : tie.Need-act-requires
-act-requires c κs = search needs
+links-of-requires : tie.Need-links-of-requires
+links-of-requires c κs = search needs
+
+turn-requires : tie.Need-turn-requires
+turn-requires c κs = search needs
 
 mul-rec2 : tie.Need-mul-rec2
 mul-rec2 c = search needs
@@ -58,11 +64,11 @@ mul-rec2 c = search needs
 element-set-from-rec2 : tie.Need-element-set-from-rec2
 element-set-from-rec2 c = search needs
 
-mul-change : tie.Need-mul-change
-mul-change c = search needs
+mul-change2 : tie.Need-mul-change2
+mul-change2 c = search needs
 
-element-set-from-change : tie.Need-element-set-from-change
-element-set-from-change c = search needs
+element-set-from-change2 : tie.Need-element-set-from-change2
+element-set-from-change2 c = search needs
 
 mul-task2 : tie.Need-mul-task2
 mul-task2 c = search needs
@@ -80,18 +86,19 @@ drop-links-requires : tie.Need-drop-links-requires
 drop-links-requires c κs = search needs
 
 returns : tie.Need-returns
-returns c = step-is _ _ _ _ _ _ _ (c .before .before .before .before .before .before .before .before .before .before .before .before .before .change-of .ensures) (c .before .before .before .before .before .before .before .before .before .before .before .access-of .ensures) (c .before .before .before .before .before .before .before .before .before .before .record-of .ensures) (c .before .before .before .before .before .before .before .act .ensures) (c .before .drop-links .ensures)
+returns c = turned _ _ _ _ _ _ _ _ (c .before .before .before .before .before .before .before .before .before .before .before .before .before .before .before .before .number-of .ensures) (c .before .before .before .before .before .before .before .before .before .before .before .before .before .before .access-of .ensures) (c .before .before .before .before .before .before .before .before .before .before .before .before .before .record-of .ensures) (c .before .before .before .before .before .before .before .before .before .links-of .ensures) (c .before .before .before .before .before .before .before .before .turn .ensures) (lost-is _ _ _ _ _ (c .before .drop-links .ensures))
 
-pub step-in-spec : {M : Type 1} → statement M
-step-in-spec =
+pub turn-in-spec : {M : Type 1} → statement M
+turn-in-spec =
     tie.close
     (tie.spec
+    cast-k
     mul-task
     element-copy-out-task
-    change-of-requires
+    number-of-requires
     cast-c
-    mul-ch
-    element-copy-out-ch
+    mul-change
+    element-copy-out-change
     access-of-requires
     record-of-requires
     cast-r
@@ -101,11 +108,12 @@ step-in-spec =
     add-at
     mul-link
     element-copy-out-link
-    act-requires
+    links-of-requires
+    turn-requires
     mul-rec2
     element-set-from-rec2
-    mul-change
-    element-set-from-change
+    mul-change2
+    element-set-from-change2
     mul-task2
     element-set-from-task2
     mul-link2
