@@ -2,3 +2,5 @@ pub mod Once
 pub mod Entries
 pub mod Inner
 pub mod Tally
+pub mod Sheets
+pub mod Walked

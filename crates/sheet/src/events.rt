@@ -10,19 +10,19 @@ use table::Ask;
 use table::Call;
 
 // The bytes of an event.
-pub const EVENT: usize = 12;
+pub(crate) const EVENT: usize = 12;
 
 type Event = [u8; EVENT];
 
 // The byte at j, 0 past the end.
-pub fn byte_at(s: &[u8], j: usize) -> u8
+pub(crate) fn byte_at(s: &[u8], j: usize) -> u8
     ensures { λ o. ⌜ o ≡ getD (now (s .entry)) j 0 ⌝ }
 {
     if j < s.len() { s[j] } else { 0 }
 }
 
 // Two bytes, low byte first.
-pub fn pair(low: u8, high: u8) -> u16
+pub(crate) fn pair(low: u8, high: u8) -> u16
     ensures { λ o. ⌜ o ≡ low + 256 * high ⌝ }
 {
     low as u16 + 256 * (high as u16)
@@ -115,7 +115,7 @@ fn call_of(e: Event) -> Call
 }
 
 // Event i, by slice and number.
-pub fn event_at(events: &[u8], i: u16) -> Call
+pub(crate) fn event_at(events: &[u8], i: u16) -> Call
     ensures { λ o. ⌜ o ≡ eventAt (now (events .entry)) i ⌝ }
 {
     call_of(event_bytes(events, i))
@@ -183,7 +183,7 @@ fn event_fine(e: Event) -> bool
 }
 
 // All events are fine.
-pub fn events_fine(events: &[u8], count: u16) -> bool
+pub(crate) fn events_fine(events: &[u8], count: u16) -> bool
     ensures { λ o. ⌜ o ≡ eventsFine (now (events .entry)) count ⌝ }
 {
     let mut i: u16 = 0;

@@ -7,7 +7,7 @@ ghost use lib.Seq.{sets};
 ghost use Rattle.sheet.specs.Layout.{valueBytes};
 
 // Bytes as they are, from `at` on.
-pub fn put_bytes(out: &mut [u8], at: usize, bytes: &[u8])
+fn put_bytes(out: &mut [u8], at: usize, bytes: &[u8])
     requires { ⌜ at + length (now bytes) ≤ length (now out) ⌝ }
     ensures { λ o. ⌜ now (out .exit) ≡ sets (now (out .entry)) at (now (bytes .entry)) ⌝ }
 {
@@ -19,7 +19,7 @@ pub fn put_bytes(out: &mut [u8], at: usize, bytes: &[u8])
 }
 
 // Values from the front on, each low byte first.
-pub fn put_values(out: &mut [u8], values: &[u16])
+fn put_values(out: &mut [u8], values: &[u16])
     requires { ⌜ 2 * length (now values) ≤ length (now out) ⌝ }
     ensures { λ o. ⌜ now (out .exit) ≡ sets (now (out .entry)) 0 (valueBytes (now (values .entry))) ⌝ }
 {
@@ -33,7 +33,7 @@ pub fn put_values(out: &mut [u8], values: &[u16])
 }
 
 // The parts of a sheet one after the other, from the front on.
-pub fn put_sheet(out: &mut [u8], values: &[u16], events: &[u8], trailer: &[u8])
+pub(crate) fn put_sheet(out: &mut [u8], values: &[u16], events: &[u8], trailer: &[u8])
     requires { ⌜ 2 * length (now values) + length (now events) + length (now trailer) ≤ length (now out) ⌝ }
     ensures { λ o. ⌜ now (out .exit) ≡ sets (now (out .entry)) 0 (valueBytes (now (values .entry)) ++ now (events .entry) ++ now (trailer .entry)) ⌝ }
 {

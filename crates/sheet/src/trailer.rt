@@ -12,9 +12,9 @@ use crate::events::pair;
 use table::Machine;
 
 // The bytes of a trailer, of a record's initial values, and the most that a sheet has.
-pub const TRAILER: usize = 8;
+pub(crate) const TRAILER: usize = 8;
 
-pub const RECORD: usize = 2 * Machine::FIELDS;
+pub(crate) const RECORD: usize = 2 * Machine::FIELDS;
 
 const SHEET: usize = 65_000;
 
@@ -24,7 +24,7 @@ const FIRST_TAG: u8 = 0x52;
 
 const SECOND_TAG: u8 = 0x53;
 
-pub type Trailer = [u8; TRAILER];
+pub(crate) type Trailer = [u8; TRAILER];
 
 fn up_to(most: usize, k: usize) -> bool
     ensures { λ o. ⌜ o ≡ test 0 (spec.upTo most k) ⌝ }
@@ -32,14 +32,14 @@ fn up_to(most: usize, k: usize) -> bool
     k <= most
 }
 
-pub fn size_fine(size: usize) -> bool
+pub(crate) fn size_fine(size: usize) -> bool
     ensures { λ o. ⌜ o ≡ test 0 (spec.sizeFine size) ⌝ }
 {
     TRAILER <= size && up_to(SHEET, size)
 }
 
 // The last eight bytes.
-pub fn trailer(s: &[u8]) -> Trailer
+pub(crate) fn trailer(s: &[u8]) -> Trailer
     requires { ⌜ 8 ≤ length (now s) ⌝ }
     ensures { λ o. ⌜ o ≡ tabulate 8 (byte (trailer (now (s .entry)))) ⌝ }
 {
@@ -56,13 +56,13 @@ pub fn trailer(s: &[u8]) -> Trailer
     ]
 }
 
-pub fn tag_fine(t: Trailer) -> bool
+pub(crate) fn tag_fine(t: Trailer) -> bool
     ensures { λ o. ⌜ o ≡ test 0 (spec.tagFine t) ⌝ }
 {
     t[0] == FIRST_TAG && t[1] == SECOND_TAG
 }
 
-pub fn counts_fine(p: u8, n: u8, events: u16) -> bool
+pub(crate) fn counts_fine(p: u8, n: u8, events: u16) -> bool
     ensures { λ o. ⌜ o ≡ test 0 (spec.countsFine p n events) ⌝ }
 {
     lists::within(Machine::TASKS, p)
@@ -70,21 +70,21 @@ pub fn counts_fine(p: u8, n: u8, events: u16) -> bool
 }
 
 // The bytes between the heading and the trailer.
-pub fn parts_size(n: u8, events: u16) -> usize
+pub(crate) fn parts_size(n: u8, events: u16) -> usize
     ensures { λ o. ⌜ (o ≡ partsSize n events) × (o ≤ 788460) ⌝ }
 {
     RECORD * (n as usize) + EVENT * (events as usize)
 }
 
 // The distance back from the trailer, which starts at `end`.
-pub fn distance_fine(distance: u16, n: u8, events: u16, end: usize) -> bool
+pub(crate) fn distance_fine(distance: u16, n: u8, events: u16, end: usize) -> bool
     ensures { λ o. ⌜ o ≡ test 0 (spec.distanceFine distance n events end) ⌝ }
 {
     let d = distance as usize;
     d == parts_size(n, events) && up_to(end, d)
 }
 
-pub fn distance(t: Trailer) -> u16
+pub(crate) fn distance(t: Trailer) -> u16
     ensures { λ o. ⌜ o ≡ byte t 6 + 256 * byte t 7 ⌝ }
 {
     pair(t[6], t[7])
@@ -98,7 +98,7 @@ fn minus(a: usize, b: usize) -> usize
 }
 
 // What a trailer at the end of `size` bytes says.
-pub fn layout_by(t: Trailer, size: usize) -> Layout
+pub(crate) fn layout_by(t: Trailer, size: usize) -> Layout
     ensures { λ o. ⌜ o ≡ layoutBy t size ⌝ }
 {
     let end = minus(size, TRAILER);
@@ -111,7 +111,7 @@ pub fn layout_by(t: Trailer, size: usize) -> Layout
 }
 
 // The trailer to be written.
-pub fn trailer_bytes(p: u8, n: u8, count: u16) -> Trailer
+pub(crate) fn trailer_bytes(p: u8, n: u8, count: u16) -> Trailer
     ensures { λ o. ⌜ o ≡ trailerBytes p n count ⌝ }
 {
     let d = parts_size(n, count);
