@@ -9,14 +9,7 @@ use borrow.Author.Tests.{eqb-true, eqb-false, eq-eqb, ne-eqb}
 use Rattle.table.specs.Table.{pick}
 use Rattle.rules.specs.Claim.{both, allBelow}
 use Rattle.sheet.specs.Layout.{byte, uses, eventFine}
-use Rattle.sheet.specs.Unused.{sumBelow, unusedSum}
-
--- the sum of what is past n of the list
-abbrev pub pastList : ℕ → List ℕ → ℕ
-pastList n e = pick (ltb 0 n) 0 (byte e 3) + pick (ltb 1 n) 0 (byte e 4) + pick (ltb 2 n) 0 (byte e 5) + pick (ltb 3 n) 0 (byte e 6)
-
-abbrev pub pastField : List ℕ → ℕ
-pastField e = byte e 7 + byte e 8 + byte e 10 + byte e 11
+use Rattle.sheet.specs.Unused.{sumBelow, unusedSum, pastList, pastField}
 
 -- the event is of another kind
 abbrev pub Not : ℕ → List ℕ → Type 0

@@ -1,11 +1,11 @@
-// An event: its twelve bytes, the call that they say, and whether its unused bytes are 0.
+// An event: the call that its twelve bytes say, and whether its unused bytes are 0.
 ghost use mathlib.Core.Path.{_≡_};
 ghost use Prim.Native.Nat.{_+_, _*_, _≤_};
-ghost use lib.ListN.{getD};
+ghost use lib.ListN.{getD, length};
 ghost use lib.Dec.{ltb};
 ghost use Rattle.table.specs.Table.{pick, tabulate};
 ghost use Rattle.sheet.specs.Layout.{byte, callOf, eventFine, eventsFine, eventBytes, eventAt};
-ghost use Rattle.sheet.specs.Unused.{unusedSum};
+ghost use Rattle.sheet.specs.Unused.{twelveAt, pastList, pastField, unusedSum};
 use table::Ask;
 use table::Call;
 
@@ -42,42 +42,18 @@ fn short_event(s: &[u8], j: usize) -> Event
     e
 }
 
-// The twelve bytes of event i.
-fn event_bytes(s: &[u8], i: u16) -> Event
-    ensures { λ o. ⌜ o ≡ tabulate 12 (byte (eventBytes (now (s .entry)) i)) ⌝ }
+// The call that the twelve bytes from j on say.
+fn call_at(s: &[u8], j: usize) -> Call
+    requires { ⌜ j + 12 ≤ length (now s) ⌝ }
+    ensures { λ o. ⌜ o ≡ callOf (twelveAt (now (s .entry)) j) ⌝ }
 {
-    let j = EVENT * (i as usize);
-    if j + EVENT <= s.len() {
-        [
-            s[j],
-            s[j + 1],
-            s[j + 2],
-            s[j + 3],
-            s[j + 4],
-            s[j + 5],
-            s[j + 6],
-            s[j + 7],
-            s[j + 8],
-            s[j + 9],
-            s[j + 10],
-            s[j + 11],
-        ]
-    } else {
-        short_event(s, j)
-    }
-}
-
-// The call that an event says.
-fn call_of(e: Event) -> Call
-    ensures { λ o. ⌜ o ≡ callOf e ⌝ }
-{
-    let kind = e[0];
-    let task = e[1];
-    let n = e[2];
+    let kind = s[j];
+    let task = s[j + 1];
+    let n = s[j + 2];
     let none = [0, 0, 0, 0];
-    let list = [e[3], e[4], e[5], e[6]];
+    let list = [s[j + 3], s[j + 4], s[j + 5], s[j + 6]];
     if kind == 1 {
-        let ask = Ask::Llx { r: e[3] };
+        let ask = Ask::Llx { r: s[j + 3] };
         return Call {
             task,
             ask,
@@ -87,10 +63,10 @@ fn call_of(e: Event) -> Call
     if kind == 2 {
         let ask = Ask::Scx {
             n,
-            r: e[7],
-            written: e[8],
-            field: e[9],
-            new: pair(e[10], e[11]),
+            r: s[j + 7],
+            written: s[j + 8],
+            field: s[j + 9],
+            new: pair(s[j + 10], s[j + 11]),
         };
         return Call { task, ask, list };
     }
@@ -99,7 +75,10 @@ fn call_of(e: Event) -> Call
         return Call { task, ask, list };
     }
     if kind == 4 {
-        let ask = Ask::Read { r: e[3], f: e[9] };
+        let ask = Ask::Read {
+            r: s[j + 3],
+            f: s[j + 9],
+        };
         return Call {
             task,
             ask,
@@ -114,11 +93,16 @@ fn call_of(e: Event) -> Call
     }
 }
 
-// Event i, by slice and number.
+// Event i, by slice and number: read where it lies, or from a copy where the bytes end before it does.
 pub(crate) fn event_at(events: &[u8], i: u16) -> Call
     ensures { λ o. ⌜ o ≡ eventAt (now (events .entry)) i ⌝ }
 {
-    call_of(event_bytes(events, i))
+    let j = EVENT * (i as usize);
+    if j + EVENT <= events.len() {
+        return call_at(events, j);
+    }
+    let e = short_event(events, j);
+    call_at(&e, 0)
 }
 
 // The sum of four bytes.
@@ -135,51 +119,67 @@ fn past(k: u8, n: u8, x: u8) -> u8
     if k < n { 0 } else { x }
 }
 
-// The sum of the list's bytes past n.
-fn past_list(n: u8, e: Event) -> u16
-    ensures { λ o. ⌜ (o ≡ pick (ltb 0 n) 0 (byte e 3) + pick (ltb 1 n) 0 (byte e 4) + pick (ltb 2 n) 0 (byte e 5) + pick (ltb 3 n) 0 (byte e 6)) × (o ≤ 1020) ⌝ }
+// The sum of the list's bytes past n, in the event from j on.
+fn past_list(n: u8, s: &[u8], j: usize) -> u16
+    requires { ⌜ j + 12 ≤ length (now s) ⌝ }
+    ensures { λ o. ⌜ (o ≡ pastList n (twelveAt (now (s .entry)) j)) × (o ≤ 1020) ⌝ }
 {
-    let a = past(0, n, e[3]);
-    let b = past(1, n, e[4]);
-    let c = past(2, n, e[5]);
-    let d = past(3, n, e[6]);
+    let a = past(0, n, s[j + 3]);
+    let b = past(1, n, s[j + 4]);
+    let c = past(2, n, s[j + 5]);
+    let d = past(3, n, s[j + 6]);
     sum(a, b, c, d)
 }
 
 // The sum of the set R, the written place and the new value.
-fn past_field(e: Event) -> u16
-    ensures { λ o. ⌜ (o ≡ byte e 7 + byte e 8 + byte e 10 + byte e 11) × (o ≤ 1020) ⌝ }
+fn past_field(s: &[u8], j: usize) -> u16
+    requires { ⌜ j + 12 ≤ length (now s) ⌝ }
+    ensures { λ o. ⌜ (o ≡ pastField (twelveAt (now (s .entry)) j)) × (o ≤ 1020) ⌝ }
 {
-    sum(e[7], e[8], e[10], e[11])
+    sum(s[j + 7], s[j + 8], s[j + 10], s[j + 11])
 }
 
 // The sum of the bytes that the event's kind does not use: it is 0 if all are.
-fn unused(e: Event) -> u16
-    ensures { λ o. ⌜ o ≡ unusedSum e ⌝ }
+fn unused(s: &[u8], j: usize) -> u16
+    requires { ⌜ j + 12 ≤ length (now s) ⌝ }
+    ensures { λ o. ⌜ o ≡ unusedSum (twelveAt (now (s .entry)) j) ⌝ }
 {
-    let kind = e[0];
-    let n = e[2];
-    let field = e[9];
+    let kind = s[j];
+    let n = s[j + 2];
+    let field = s[j + 9];
     if kind == 1 {
-        return past_list(1, e) + past_field(e) + sum(n, field, 0, 0);
+        return past_list(1, s, j) + past_field(s, j) + sum(n, field, 0, 0);
     }
     if kind == 2 {
-        return past_list(n, e);
+        return past_list(n, s, j);
     }
     if kind == 3 {
-        return past_list(n, e) + past_field(e) + sum(field, 0, 0, 0);
+        return past_list(n, s, j) + past_field(s, j) + sum(field, 0, 0, 0);
     }
     if kind == 4 {
-        return past_list(1, e) + past_field(e) + sum(n, 0, 0, 0);
+        return past_list(1, s, j) + past_field(s, j) + sum(n, 0, 0, 0);
     }
-    past_list(0, e) + past_field(e) + sum(n, field, 0, 0)
+    past_list(0, s, j) + past_field(s, j) + sum(n, field, 0, 0)
 }
 
 // The kind is 1 to 5, and each unused byte is 0.
-fn event_fine(e: Event) -> bool
-    ensures { λ o. ⌜ o ≡ eventFine e ⌝ }
+fn fine_at(s: &[u8], j: usize) -> bool
+    requires { ⌜ j + 12 ≤ length (now s) ⌝ }
+    ensures { λ o. ⌜ o ≡ eventFine (twelveAt (now (s .entry)) j) ⌝ }
 {
-    lists::within(5, e[0]) && unused(e) == 0
+    lists::within(5, s[j]) && unused(s, j) == 0
+}
+
+// Event i is fine.
+fn event_fine(events: &[u8], i: u16) -> bool
+    ensures { λ o. ⌜ o ≡ eventFine (eventBytes (now (events .entry)) i) ⌝ }
+{
+    let j = EVENT * (i as usize);
+    if j + EVENT <= events.len() {
+        return fine_at(events, j);
+    }
+    let e = short_event(events, j);
+    fine_at(&e, 0)
 }
 
 // All events are fine.
@@ -188,7 +188,7 @@ pub(crate) fn events_fine(events: &[u8], count: u16) -> bool
 {
     let mut i: u16 = 0;
     while i < count {
-        if !event_fine(event_bytes(events, i)) {
+        if !event_fine(events, i) {
             return false;
         }
         i += 1;

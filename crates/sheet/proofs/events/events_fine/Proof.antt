@@ -1,11 +1,9 @@
 -- `sheet::events::events_fine`: the loop has passed i events, each of them fine.
 use Prim.Native.Nat.{_-_}
 use native.Mathlib.Omega.{arith}
-use mathlib.Core.Path.{_∙_, ap}
 use borrow.Author.Needs.{needs}
 use Rattle.lists.proofs.Laws.{Passed, none-yet, one-more, one-fails, all-passed, said-yes, said-no}
 use Rattle.sheet.specs.Layout.{eventFine, eventBytes, eventsFine}
-use Rattle.sheet.proofs.Bytes.{same-fine}
 use Rattle.sheet.proofs.events.events_fine.Statement.{statement}
 use Rattle.sheet.proofs.events.events_fine.Tie as tie
 
@@ -18,17 +16,12 @@ abbrev μ-loop : tie.MeasureT-loop
 loop-holds : tie.Need-loop-holds Inv-loop μ-loop
 loop-holds c = none-yet _ _
 
-event-bytes-requires : tie.Need-event-bytes-requires Inv-loop μ-loop
-event-bytes-requires c κs = search needs
-
 event-fine-requires : tie.Need-event-fine-requires Inv-loop μ-loop
 event-fine-requires c κs = search needs
 
 returns : tie.Need-returns Inv-loop μ-loop
 unfolding eventsFine
-returns c =
-    one-fails _ _ _ (c .before .before .before .loop-test .taken)
-    (said-no (c .before .event-fine .ensures ∙ ap eventFine (c .before .before .event-bytes .ensures) ∙ same-fine _) (c .if1 .taken))
+returns c = one-fails _ _ _ (c .before .before .loop-test .taken) (said-no (c .before .event-fine .ensures) (c .if1 .taken))
 
 add-i : tie.Need-add-i Inv-loop μ-loop
 add-i c = omega arith
@@ -37,9 +30,7 @@ loop-less : tie.Need-loop-less Inv-loop μ-loop
 loop-less c = omega arith
 
 loop-again : tie.Need-loop-again Inv-loop μ-loop
-loop-again c =
-    one-more _ _ _ (c .before .before .before .before .loop .inv) (c .before .before .before .loop-test .taken)
-    (said-yes (c .before .event-fine .ensures ∙ ap eventFine (c .before .before .event-bytes .ensures) ∙ same-fine _) (c .if1 .left))
+loop-again c = one-more _ _ _ (c .before .before .before .loop .inv) (c .before .before .loop-test .taken) (said-yes (c .before .event-fine .ensures) (c .if1 .left))
 
 returns-2 : tie.Need-returns-2 Inv-loop μ-loop
 unfolding eventsFine
@@ -52,7 +43,6 @@ events-fine-spec =
     Inv-loop
     μ-loop
     loop-holds
-    event-bytes-requires
     event-fine-requires
     returns
     add-i

@@ -1,18 +1,25 @@
 -- `sheet::events::unused`: the bytes that each kind leaves, added up.
 use native.Mathlib.Omega.{arith}
+use Rattle.sheet.specs.Unused.{twelveAt}
 use Rattle.sheet.proofs.Unused.{llx-sum, scx-sum, vlx-sum, read-sum, step-sum}
 use borrow.Author.Needs.{needs}
 use Rattle.sheet.proofs.events.unused.Statement.{statement}
 use Rattle.sheet.proofs.events.unused.Tie as tie
 
-array-read-kind : tie.Need-array-read-kind
-array-read-kind c = search needs
+shared-slice-read-kind : tie.Need-shared-slice-read-kind
+shared-slice-read-kind c = search needs
 
-array-read-n : tie.Need-array-read-n
-array-read-n c = search needs
+add-n : tie.Need-add-n
+add-n c = search needs
 
-array-read-field : tie.Need-array-read-field
-array-read-field c = search needs
+shared-slice-read-n : tie.Need-shared-slice-read-n
+shared-slice-read-n c = search needs
+
+add-field : tie.Need-add-field
+add-field c = search needs
+
+shared-slice-read-field : tie.Need-shared-slice-read-field
+shared-slice-read-field c = search needs
 
 past-list-requires : tie.Need-past-list-requires
 past-list-requires c κs = search needs
@@ -30,13 +37,13 @@ add-result-2 : tie.Need-add-result-2
 add-result-2 c = search needs
 
 returns : tie.Need-returns
-returns c = omega (arith, llx-sum (c .before .before .before .before .args .t1) (c .before .before .before .if1 .taken))
+returns c = omega (arith, llx-sum (twelveAt (c .before .before .before .before .before .before .before .before .args .s .now) (c .before .before .before .before .before .before .before .before .args .j)) (c .before .before .before .if1 .taken))
 
 past-list-requires-2 : tie.Need-past-list-requires-2
 past-list-requires-2 c κs = search needs
 
 returns-2 : tie.Need-returns-2
-returns-2 c = omega (arith, scx-sum (c .before .before .before .args .t1) (c .before .before .if1 .left) (c .before .if2 .taken))
+returns-2 c = omega (arith, scx-sum (twelveAt (c .before .before .before .before .before .before .before .args .s .now) (c .before .before .before .before .before .before .before .args .j)) (c .before .before .if1 .left) (c .before .if2 .taken))
 
 past-list-requires-3 : tie.Need-past-list-requires-3
 past-list-requires-3 c κs = search needs
@@ -54,7 +61,7 @@ add-result-4 : tie.Need-add-result-4
 add-result-4 c = search needs
 
 returns-3 : tie.Need-returns-3
-returns-3 c = omega (arith, vlx-sum (c .before .before .before .before .before .before .args .t1) (c .before .before .before .before .before .if1 .left) (c .before .before .before .before .if2 .left) (c .before .before .before .if3 .taken))
+returns-3 c = omega (arith, vlx-sum (twelveAt (c .before .before .before .before .before .before .before .before .before .before .args .s .now) (c .before .before .before .before .before .before .before .before .before .before .args .j)) (c .before .before .before .before .before .if1 .left) (c .before .before .before .before .if2 .left) (c .before .before .before .if3 .taken))
 
 past-list-requires-4 : tie.Need-past-list-requires-4
 past-list-requires-4 c κs = search needs
@@ -72,7 +79,7 @@ add-result-6 : tie.Need-add-result-6
 add-result-6 c = search needs
 
 returns-4 : tie.Need-returns-4
-returns-4 c = omega (arith, read-sum (c .before .before .before .before .before .before .before .args .t1) (c .before .before .before .before .before .before .if1 .left) (c .before .before .before .before .before .if2 .left) (c .before .before .before .before .if3 .left) (c .before .before .before .if4 .taken))
+returns-4 c = omega (arith, read-sum (twelveAt (c .before .before .before .before .before .before .before .before .before .before .before .args .s .now) (c .before .before .before .before .before .before .before .before .before .before .before .args .j)) (c .before .before .before .before .before .before .if1 .left) (c .before .before .before .before .before .if2 .left) (c .before .before .before .before .if3 .left) (c .before .before .before .if4 .taken))
 
 past-list-requires-5 : tie.Need-past-list-requires-5
 past-list-requires-5 c κs = search needs
@@ -90,15 +97,17 @@ add-result-8 : tie.Need-add-result-8
 add-result-8 c = search needs
 
 returns-5 : tie.Need-returns-5
-returns-5 c = omega (arith, step-sum (c .before .before .before .before .before .before .before .args .t1) (c .before .before .before .before .before .before .if1 .left) (c .before .before .before .before .before .if2 .left) (c .before .before .before .before .if3 .left) (c .before .before .before .if4 .left))
+returns-5 c = omega (arith, step-sum (twelveAt (c .before .before .before .before .before .before .before .before .before .before .before .args .s .now) (c .before .before .before .before .before .before .before .before .before .before .before .args .j)) (c .before .before .before .before .before .before .if1 .left) (c .before .before .before .before .before .if2 .left) (c .before .before .before .before .if3 .left) (c .before .before .before .if4 .left))
 
 pub unused-spec : {M : Type 1} → statement M
 unused-spec =
     tie.close
     (tie.spec
-    array-read-kind
-    array-read-n
-    array-read-field
+    shared-slice-read-kind
+    add-n
+    shared-slice-read-n
+    add-field
+    shared-slice-read-field
     past-list-requires
     past-field-requires
     add-result
