@@ -1,15 +1,16 @@
 -- The values of four cells, one by one, and how long a line can be.
 use Prim.Native.Nat.{ℕ, _*_, _≤_}
 use native.Mathlib.Omega.{arith}
-use mathlib.Core.Path.{_≡_, refl}
+use mathlib.Core.Path.{_≡_, refl, subst, ap₂}
 use mathlib.Core.List.{List, [], _∷_, map}
 use lib.ListN.{length, length-map}
 use mathlib.Core.Bool.{Bool}
 use Rattle.rules.specs.Words.{Cell, Refusal, Answer, Accepted, Snapshot, Finalized, Fail, Yes, No, Value, Refused}
-use Rattle.rules.specs.Answer.{refusalNumber}
+use Rattle.rules.specs.Answer.{refusalNumber, number, values}
 use Rattle.table.specs.Table.{cellAt}
 use Rattle.tally.specs.declared.Tally.{Tally}
 use Rattle.text.specs.Text.{row}
+use Rattle.text.specs.Put.{Put}
 use Rattle.text.proofs.Most.{row-most, lettered-most}
 use Rattle.lines.specs.Lines.{answerLine, bit, cellsLine, tallyLine, refusalLine}
 
@@ -51,3 +52,14 @@ tally-most t = lettered-most 84 (t .made ∷ t .no ∷ t .fail ∷ [])
 pub refusal-most : (why : Refusal) → length (refusalLine why) ≤ 8
 unfolding refusalLine
 refusal-most why = lettered-most 88 (refusalNumber why ∷ [])
+
+-- an answer's line, by its number and its values
+pub lined : (old : List ℕ) (at k t said : ℕ) (answer : Answer) (cells : List Cell) (vs new : List ℕ) (r : ℕ) → said ≡ number answer → vs ≡ values answer cells
+    → length cells ≡ 4
+    → Put old at (row (k ∷ t ∷ said ∷ vs)) new r
+    → Put old at (answerLine k t answer cells) new r × (length (answerLine k t answer cells) ≤ 42)
+unfolding answerLine
+lined old at k t said answer cells vs new r en ev four put = (
+  subst (λ (xs : List ℕ). Put old at (row xs) new r) (ap₂ (λ (x : ℕ) (xs : List ℕ). k ∷ t ∷ x ∷ xs) en ev) put,
+  answer-most k t answer cells four,
+)

@@ -21,22 +21,30 @@ fn put_bare(out: &mut [u8], at: usize, k: u16, t: u8, no: u8) -> usize
 }
 
 // An answer with one value.
-fn put_value(out: &mut [u8], at: usize, k: u16, t: u8, value: u16) -> usize
-    ensures { λ r. ⌜ Put (now (out .entry)) at (row (k ∷ t ∷ 6 ∷ value ∷ [])) (now (out .exit)) r ⌝ }
+fn put_value(out: &mut [u8], at: usize, k: u16, t: u8, no: u8, value: u16) -> usize
+    ensures { λ r. ⌜ Put (now (out .entry)) at (row (k ∷ t ∷ no ∷ value ∷ [])) (now (out .exit)) r ⌝ }
 {
-    let xs = [k, t as u16, 6, value];
+    let xs = [k, t as u16, no as u16, value];
     text::put_row(out, at, &xs)
 }
 
 // An answer with four values.
-fn put_snapshot(out: &mut [u8], at: usize, k: u16, t: u8, cells: Cells) -> usize
-    ensures { λ r. ⌜ Put (now (out .entry)) at (row (k ∷ t ∷ 1 ∷ map (λ c. c .value) cells)) (now (out .exit)) r ⌝ }
+fn put_snapshot(out: &mut [u8], at: usize, k: u16, t: u8, no: u8, cells: Cells) -> usize
+    ensures { λ r. ⌜ Put (now (out .entry)) at (row (k ∷ t ∷ no ∷ map (λ c. c .value) cells)) (now (out .exit)) r ⌝ }
 {
     let c0 = cells[0];
     let c1 = cells[1];
     let c2 = cells[2];
     let c3 = cells[3];
-    let xs = [k, t as u16, 1, c0.value, c1.value, c2.value, c3.value];
+    let xs = [
+        k,
+        t as u16,
+        no as u16,
+        c0.value,
+        c1.value,
+        c2.value,
+        c3.value,
+    ];
     text::put_row(out, at, &xs)
 }
 
@@ -44,15 +52,16 @@ fn put_snapshot(out: &mut [u8], at: usize, k: u16, t: u8, cells: Cells) -> usize
 pub fn put_answer(out: &mut [u8], at: usize, k: u16, t: u8, answer: Answer, cells: Cells) -> usize
     ensures { λ r. ⌜ Put (now (out .entry)) at (answerLine k t answer cells) (now (out .exit)) r × (length (answerLine k t answer cells) ≤ 42) ⌝ }
 {
+    let no = answers::number_of(answer);
     match answer {
-        Answer::Accepted => put_bare(out, at, k, t, 0),
-        Answer::Snapshot => put_snapshot(out, at, k, t, cells),
-        Answer::Finalized => put_bare(out, at, k, t, 2),
-        Answer::Fail => put_bare(out, at, k, t, 3),
-        Answer::Yes => put_bare(out, at, k, t, 4),
-        Answer::No => put_bare(out, at, k, t, 5),
-        Answer::Value { cell } => put_value(out, at, k, t, cell.value),
-        Answer::Refused { why } => put_bare(out, at, k, t, answers::refusal_number(why)),
+        Answer::Accepted => put_bare(out, at, k, t, no),
+        Answer::Snapshot => put_snapshot(out, at, k, t, no, cells),
+        Answer::Finalized => put_bare(out, at, k, t, no),
+        Answer::Fail => put_bare(out, at, k, t, no),
+        Answer::Yes => put_bare(out, at, k, t, no),
+        Answer::No => put_bare(out, at, k, t, no),
+        Answer::Value { cell } => put_value(out, at, k, t, no, cell.value),
+        Answer::Refused { .. } => put_bare(out, at, k, t, no),
     }
 }
 
