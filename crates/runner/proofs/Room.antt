@@ -1,25 +1,26 @@
--- The lent buffer: too short, it is refused and as it was; else the text stands at its front, and it all fits.
+-- The lent buffer: too short, it stays as it was; else the text stands at its front, and it all fits.
 use Prim.Native.Nat.{ℕ, _+_, _≤_, _<_}
 use native.Mathlib.Nat.{le-trans}
 use native.Mathlib.Omega.{arith}
 use mathlib.Core.Bool.{Bool, true, false}
 use mathlib.Core.Path.{_≡_, refl, sym, ap, _∙_}
 use mathlib.Core.List.{List, _++_}
-use lib.Dec.{leb}
+use lib.Dec.{leb, lit≤}
 use lib.ListN.{length, drop, length-append}
 use borrow.Author.Tests.{le-leb, lt-leb}
 use Rattle.table.specs.Table.{pick}
-use Rattle.rules.specs.Words.{BufferShort}
 use Rattle.sheet.specs.declared.Sheet.{Sheet}
+use Rattle.sheet.specs.declared.Sheet.the-variants.{Read, Refused}
 use Rattle.sheet.specs.Layout.{sheetOf}
+use Rattle.sheet.proofs.Laws.{read-inside}
 use Rattle.text.specs.Put.{Put}
 use Rattle.text.proofs.Laws.{whole, reached}
 use Rattle.runner.specs.declared.Ran.{Ran}
-use Rattle.runner.specs.declared.Ran.the-variants.{Text, Refused}
+use Rattle.runner.specs.declared.Ran.the-variants.{Text, Short}
 use Rattle.runner.specs.Run.{textAs, textOf, roomAs, ranOf, printedOf}
 
 module _ (s old : List ℕ) (x : Sheet) (e : x ≡ sheetOf s) where
-  pub too-short : length old < roomAs x → (Refused BufferShort ≡ ranOf s (length old)) × (old ≡ printedOf s old)
+  pub too-short : length old < roomAs x → (Short (roomAs x) ≡ ranOf s (length old)) × (old ≡ printedOf s old)
   unfolding ranOf printedOf
   too-short h = (rw (← e, lt-leb (roomAs x) (length old) h) refl, rw (← e, lt-leb (roomAs x) (length old) h) refl)
 
@@ -35,9 +36,18 @@ pub in-buffer : (s old new : List ℕ) (o : Ran) (n : ℕ) → (o ≡ ranOf s (l
 unfolding ranOf printedOf
 in-buffer s old new o n said kept told = go (leb (roomAs (sheetOf s)) (length old)) (sym told ∙ said .0) (said .1)
   where
-    go : (b : Bool) → Text n ≡ pick b (Text (length (textOf s))) (Refused BufferShort) → new ≡ pick b (textOf s ++ drop (length (textOf s)) old) old → n ≤ length new
+    go : (b : Bool) → Text n ≡ pick b (Text (length (textOf s))) (Short (roomAs (sheetOf s))) → new ≡ pick b (textOf s ++ drop (length (textOf s)) old) old → n ≤ length new
     go true e f =
         let k : n ≡ length (textOf s) = cc in
         let l : length new ≡ length (textOf s) + length (drop (length (textOf s)) old) = ap length f ∙ length-append (textOf s) _ in
         omega arith
     go false e f = let z : _≡_ {A = ℕ} 0 1 = cc in absurd (omega arith)
+
+-- 211,236 bytes are room for every sheet
+pub enough : (s : List ℕ) (size : ℕ) → 211236 ≤ size → ranOf s size ≡ Text (length (textOf s))
+unfolding ranOf
+enough s size h = rw (le-leb (roomAs (sheetOf s)) size (le-trans (most (sheetOf s) refl) h)) refl
+  where
+    most : (x : Sheet) → sheetOf s ≡ x → roomAs x ≤ 211236
+    most (Read at) e = let i = read-inside e in omega (arith, i .records .1, i .most-events)
+    most (Refused why) e = lit≤ tt

@@ -6,7 +6,7 @@ use lib.Dec.{leb}
 use lib.ListN.{length, drop}
 use Rattle.table.specs.Table.{pick, recordAt, taskAt}
 use Rattle.table.specs.Fresh.{fresh}
-use Rattle.rules.specs.Words.{Machine, BufferShort, Out}
+use Rattle.rules.specs.Words.{Machine, Out}
 use Rattle.rules.specs.Next.{next}
 use Rattle.sheet.specs.declared.Layout.{Layout}
 use Rattle.sheet.specs.declared.Sheet.{Sheet}
@@ -17,7 +17,7 @@ use Rattle.tally.specs.Count.{operationOf, tallyOf, firstOf}
 use Rattle.text.specs.Text.{joined}
 use Rattle.lines.specs.Lines.{answerLine, recordLine, tallyLine, refusalLine}
 use Rattle.runner.specs.declared.Ran.{Ran}
-use Rattle.runner.specs.declared.Ran.the-variants.{Text, Refused as NotRun}
+use Rattle.runner.specs.declared.Ran.the-variants.{Text, Short}
 
 -- the machine after the first i events, and what event i gives; "A refused event doesn't stop the run."
 unfoldable pub machineAt : Machine → List ℕ → ℕ → Machine
@@ -61,13 +61,13 @@ unfoldable pub textOf : List ℕ → List ℕ
 textOf s = textAs s (sheetOf s)
 
 -- THE LENT BUFFER: the runner asks for room for the longest text that so many events and records could have, which is known before the
--- run (six bytes for each number with what comes after it), and refuses a shorter buffer with 25, as it was.
+-- run (six bytes for each number with what comes after it). A shorter buffer stays as it was, and the answer is how long it must be.
 abbrev pub roomAs : Sheet → ℕ
 roomAs (Read at) = 42 * at .events + 38 * at .n + 20
 roomAs (Refused why) = 8
 
 unfoldable pub ranOf : List ℕ → ℕ → Ran
-ranOf s size = pick (leb (roomAs (sheetOf s)) size) (Text (length (textOf s))) (NotRun BufferShort)
+ranOf s size = pick (leb (roomAs (sheetOf s)) size) (Text (length (textOf s))) (Short (roomAs (sheetOf s)))
 
 unfoldable pub printedOf : List ℕ → List ℕ → List ℕ
 printedOf s old = pick (leb (roomAs (sheetOf s)) (length old)) (textOf s ++ drop (length (textOf s)) old) old

@@ -10,12 +10,11 @@ ghost use Rattle.runner.specs.Run.{recordLineAt, tableOf, runOf, ranOf, 
 use sheet::Layout;
 use sheet::Sheet;
 use table::Machine;
-use table::Refusal;
 
-// The length of the text, or 25 where the lent buffer is too short for the longest text that the sheet could have.
+// The length of the text; or the buffer is too short, and how long it must be for the longest text that the sheet could have.
 pub enum Ran {
     Text { length: usize },
-    Refused { why: Refusal },
+    Short { room: usize },
 }
 
 // The longest line of an event, of a record, of the tally and of a refused sheet.
@@ -79,18 +78,14 @@ pub fn run(s: &[u8], out: &mut [u8]) -> Ran
         Sheet::Read { at } => {
             let room = EVENT_LINE * at.events as usize + RECORD_LINE * at.n as usize + TALLY_LINE;
             if out.len() < room {
-                return Ran::Refused {
-                    why: Refusal::BufferShort,
-                };
+                return Ran::Short { room };
             }
             let length = put_run(s, at, out);
             Ran::Text { length }
         }
         Sheet::Refused { why } => {
             if out.len() < REFUSAL_LINE {
-                return Ran::Refused {
-                    why: Refusal::BufferShort,
-                };
+                return Ran::Short { room: REFUSAL_LINE };
             }
             let length = lines::put_refusal(out, 0, why);
             Ran::Text { length }
