@@ -1,17 +1,16 @@
 -- HEADING BYTES ARE IGNORED: the trailer is the last eight bytes, and the parts are found back from it.
-use Prim.Native.Nat.{ℕ, _+_, _-_, _*_, _<_, _≤_}
+use Prim.Native.Nat.{ℕ, _+_, _-_, _*_, _≤_}
 use native.Mathlib.Omega.{arith}
-use mathlib.Core.Path.{_≡_, refl, sym, ap, _∙_}
-use mathlib.Core.Bool.{true}
-use mathlib.Core.List.{List, [], _∷_, _++_}
+use mathlib.Core.Path.{_≡_, refl, ap}
+use mathlib.Core.List.{List, _++_}
 use lib.ListN.{length, take, drop, length-append}
 use lib.Seq.{drop-append-add}
 use Rattle.rules.specs.Claim.{Says}
 use Rattle.rules.proofs.Exact.{told, passes}
 use Rattle.sheet.specs.declared.Layout.{Layout}
 use Rattle.sheet.specs.declared.Sheet.the-variants.{Read}
-use Rattle.sheet.specs.Layout.{trailer, distance, layoutBy, layoutOf, valuesPart, eventsPart, eventsFine, sizeFine, tagFine, distanceFine, sheetOf, numbers, partsOf}
-use Rattle.sheet.proofs.Refusals.{size, tag, back, events}
+use Rattle.sheet.specs.Layout.{trailer, distance, layoutOf, valuesPart, eventsPart, sizeFine, distanceFine, sheetOf, partsOf}
+use Rattle.sheet.proofs.Refusals.{events}
 use Rattle.sheet.proofs.Laws.{Kept, read-kept, kept-read, Inside, read-inside}
 use Rattle.back.specs.Back.{ReadAs, Heading}
 

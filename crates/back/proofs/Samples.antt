@@ -1,15 +1,13 @@
 -- Samples, computed: the whole example is accepted and says its calls, written it is its 196 bytes; run 13's sheets of 7 and 8 bytes;
 -- and one sheet for each refusal from 20 to 25.
-use Prim.Native.Nat.{ℕ}
 use mathlib.Core.Path.{_≡_, refl}
-use mathlib.Core.List.{List, [], _∷_, _++_}
 use lib.ListN.{length, replicate, set}
 use Rattle.table.specs.Table.{tabulate}
-use Rattle.rules.specs.Words.{Call, SheetSize, SheetTag, Counts, Distance, EventKind, BufferShort}
+use Rattle.rules.specs.Words.{SheetSize, SheetTag, Counts, Distance, EventKind, BufferShort}
 use Rattle.rules.specs.Claim.{both, allBelow}
 use Rattle.sheet.specs.declared.Sheet.the-variants.{Read, Refused}
 use Rattle.sheet.specs.declared.Written.the-variants.{Sheet as WrittenSheet, Refused as NotWritten}
-use Rattle.sheet.specs.Layout.{uses, callOf, eventFine, eventAt, eventsFine, layoutOf, eventsPart, valuesPart, sheetOf, numbers, partsOf, valueBytes, sheetBytes, bytesOf, writtenOf}
+use Rattle.sheet.specs.Layout.{uses, callOf, eventFine, eventAt, eventsFine, layoutOf, eventsPart, valuesPart, sheetOf, numbers, partsOf, valueBytes, sheetBytes, writtenOf}
 use Rattle.back.specs.Example.{exampleValues, exampleEvents, exampleBytes, exampleCalls}
 
 example-size : length exampleBytes ≡ 196

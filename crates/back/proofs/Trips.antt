@@ -2,23 +2,20 @@
 use Prim.Native.Nat.{ℕ, _+_, _-_, _*_, _/_, _%_, _<_, _≤_}
 use native.Mathlib.Omega.{arith}
 use mathlib.Core.Path.{_≡_, refl, sym, ap, ap₂, _∙_}
-use mathlib.Core.Bool.{true}
 use mathlib.Core.List.{List, [], _∷_, _++_, append-assoc}
-use lib.ListN.{getD, length, take, drop, length-append, length-take, length-drop, take-append-drop}
+use lib.ListN.{length, take, drop, length-append, length-drop, take-append-drop}
 use lib.Seq.{take-at, drop-at, drop-drop, getD-drop, getD-take, length-take-le, ext-getD}
 use borrow.Author.Tests.{eqb-true, eq-eqb}
 use Rattle.table.specs.Table.{tabulate}
 use Rattle.table.proofs.Tabulate.{length-tabulate, getD-tabulate}
-use Rattle.rules.specs.Claim.{Says}
 use Rattle.rules.proofs.Exact.{told, passes}
 use Rattle.sheet.specs.declared.Layout.{Layout}
 use Rattle.sheet.specs.declared.Sheet.the-variants.{Read}
-use Rattle.sheet.specs.declared.Written.the-variants.{Sheet as WrittenSheet}
-use Rattle.sheet.specs.Layout.{byte, pair, lowFirst, trailer, distance, layoutOf, valuesPart, eventsPart, eventsFine, sizeFine, tagFine, countsFine, distanceFine, givenFine, partsSize, sheetSize, sheetOf, numbers, Parts, partsOf, valueBytes, trailerBytes, sheetBytes, bytesOf}
+use Rattle.sheet.specs.Layout.{byte, pair, lowFirst, trailer, distance, layoutOf, valuesPart, eventsPart, sizeFine, tagFine, countsFine, distanceFine, givenFine, partsSize, sheetSize, sheetOf, numbers, Parts, partsOf, valueBytes, trailerBytes, sheetBytes, bytesOf}
 use Rattle.sheet.proofs.Stored.{length-value-bytes}
-use Rattle.sheet.proofs.Writing.{given, Sized, room, sheet-length}
+use Rattle.sheet.proofs.Writing.{Sized, room, sheet-length}
 use Rattle.sheet.proofs.Laws.{Kept, read-kept, kept-read, Inside, read-inside, Accepts, written-accepts, accepts-written, accepts-buffer}
-use Rattle.back.specs.Back.{AllBelow, countOf, ReadAs, WrittenThenRead, ReadThenWritten, Writing, Reading}
+use Rattle.back.specs.Back.{AllBelow, countOf, WrittenThenRead, ReadThenWritten, Writing, Reading}
 use Rattle.back.proofs.Values.{values-back, bytes-back, low-first}
 use Rattle.back.proofs.Heading.{heading}
 

@@ -1,10 +1,9 @@
 -- Values as bytes and back, low byte first.
-use Prim.Native.Nat.{ℕ, zero, suc, _+_, _*_, _/_, _%_, _<_, _≤_}
+use Prim.Native.Nat.{ℕ, zero, suc, _+_, _*_, _/_, _%_, _<_}
 use native.Mathlib.Omega.{arith}
-use native.Mathlib.Nat.{mul-suc}
-use mathlib.Core.Path.{_≡_, refl, sym, ap, ap₂, fun-ext, _∙_}
+use mathlib.Core.Path.{_≡_, refl, ap, ap₂, fun-ext, _∙_}
 use mathlib.Core.List.{List, [], _∷_, _++_}
-use lib.ListN.{getD, length}
+use lib.ListN.{length}
 use Rattle.table.specs.Table.{tabulate}
 use Rattle.sheet.specs.Layout.{pair, lowFirst, numbers, valueBytes}
 use Rattle.back.specs.Back.{AllBelow}

@@ -2,15 +2,14 @@
 use Prim.Native.Nat.{ℕ, _+_}
 use native.Mathlib.Nat.{add-zero}
 use mathlib.Core.Path.{_≡_, refl, ap, _∙_}
-use mathlib.Core.Bool.{Bool, true, false}
 use mathlib.Core.List.{List, [], _∷_}
-use lib.ListN.{getD, drop}
+use lib.ListN.{drop}
 use lib.Seq.{getD-drop}
 use lib.Dec.{eqb}
-use Rattle.table.specs.Table.{pick, tabulate}
+use Rattle.table.specs.Table.{tabulate}
 use Rattle.rules.specs.Claim.{both, allBelow, test}
 use Rattle.rules.specs.Shape.{within}
-use Rattle.sheet.specs.Layout.{byte, uses, callOf, eventFine}
+use Rattle.sheet.specs.Layout.{byte, callOf, eventFine}
 use Rattle.sheet.specs.Unused.{twelveAt, unusedSum}
 use Rattle.sheet.proofs.Unused.{all-unused}
 

@@ -1,10 +1,10 @@
 -- What callers know of a sheet that was read: its tests were kept, and its parts lie inside it. And when the writer accepts.
 use Prim.Native.Nat.{ℕ, _+_, _-_, _*_, _≤_, _<_}
 use native.Mathlib.Omega.{arith}
-use mathlib.Core.Path.{_≡_, refl, sym, ap, _∙_}
+use mathlib.Core.Path.{_≡_, refl, sym, _∙_}
 use mathlib.Core.Bool.{Bool, true, false}
-use mathlib.Core.List.{List, [], _∷_, _++_}
-use lib.ListN.{length, take, drop, getD, length-take, length-drop}
+use mathlib.Core.List.{List, _++_}
+use lib.ListN.{length, take, drop}
 use lib.Seq.{ext-getD, getD-take, length-take-le}
 use Rattle.table.specs.Table.{pick, tabulate}
 use Rattle.table.proofs.Tabulate.{length-tabulate, getD-tabulate}
@@ -13,11 +13,9 @@ use Rattle.rules.specs.Claim.{test}
 use Rattle.rules.specs.Refuse.{check}
 use Rattle.rules.proofs.Exact.{told, passes}
 use Rattle.sheet.specs.declared.Layout.{Layout}
-use Rattle.sheet.specs.declared.Sheet.{Sheet}
-use Rattle.sheet.specs.declared.Sheet.the-variants.{Read, Refused}
-use Rattle.sheet.specs.declared.Written.{Written}
-use Rattle.sheet.specs.declared.Written.the-variants.{Sheet as WrittenSheet, Refused as NotWritten}
-use Rattle.sheet.specs.Layout.{pair, layoutOf, valuesPart, eventsPart, eventsFine, sizeFine, countsFine, readAs, sheetRules, sheetOf, numbers, valuesIn, upTo, sheetSize, sheetBytes, writerRules, writtenAs, writtenOf, bufferOf}
+use Rattle.sheet.specs.declared.Sheet.the-variants.{Read}
+use Rattle.sheet.specs.declared.Written.the-variants.{Sheet as WrittenSheet}
+use Rattle.sheet.specs.Layout.{pair, layoutOf, eventsFine, sizeFine, countsFine, readAs, sheetRules, sheetOf, numbers, valuesIn, upTo, sheetSize, sheetBytes, writerRules, writtenAs, writtenOf, bufferOf}
 use Rattle.sheet.proofs.Refusals.{size, tag, counts, back, events, accepted, filled, long-enough}
 use Rattle.sheet.proofs.Writing.{given}
 

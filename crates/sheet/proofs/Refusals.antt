@@ -1,19 +1,18 @@
 -- A sheet's refusals, one after the other: what the code has tested so far, and what the sheet then is.
 use Prim.Native.Nat.{ℕ, _+_, _-_, _*_, _≤_}
 use native.Mathlib.Omega.{arith}
-use mathlib.Core.Path.{_≡_, refl, sym, ap, _∙_}
+use mathlib.Core.Path.{_≡_, refl, ap, _∙_}
 use mathlib.Core.Bool.{Bool, true, false}
 use mathlib.Core.List.{List}
 use lib.ListN.{length, take, drop}
 use borrow.Author.Tests.{eqb-true}
 use Rattle.table.specs.Table.{tabulate}
 use Rattle.rules.specs.Words.{SheetSize, SheetTag, Counts, Distance, EventKind}
-use Rattle.rules.specs.Claim.{test, Says}
+use Rattle.rules.specs.Claim.{test}
 use Rattle.rules.proofs.Exact.{told}
 use Rattle.sheet.specs.declared.Layout.{Layout}
-use Rattle.sheet.specs.declared.Sheet.{Sheet}
 use Rattle.sheet.specs.declared.Sheet.the-variants.{Read, Refused}
-use Rattle.sheet.specs.Layout.{byte, pair, trailer, distance, layoutBy, layoutOf, eventsPart, eventsFine, sizeFine, tagFine, countsFine, distanceFine, sheetOf}
+use Rattle.sheet.specs.Layout.{byte, trailer, distance, layoutBy, layoutOf, eventsPart, eventsFine, sizeFine, tagFine, countsFine, distanceFine, sheetOf}
 
 -- the four tests before the events, and the events'
 abbrev pub size : List ℕ → Bool

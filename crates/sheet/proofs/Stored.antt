@@ -1,12 +1,12 @@
 -- What the writing loops leave in the buffer: the bytes that they have passed, written over the old ones.
-use Prim.Native.Nat.{ℕ, zero, suc, _+_, _*_, _/_, _%_, _<_, _≤_}
+use Prim.Native.Nat.{ℕ, suc, _+_, _*_, _/_, _%_, _<_}
 use native.Mathlib.Nat.{add-zero, add-suc, suc-add}
 use native.Mathlib.Numerals.{add-one}
 use native.Mathlib.Omega.{arith}
-use mathlib.Core.Path.{_≡_, refl, sym, ap, _∙_}
-use mathlib.Core.List.{List, [], _∷_, _++_, append-assoc}
-use lib.ListN.{getD, length, take, drop, set, length-append}
-use lib.Seq.{sets, sets-eq, take-suc, take-length, length-take-le}
+use mathlib.Core.Path.{_≡_, refl, ap}
+use mathlib.Core.List.{List, [], _∷_, _++_}
+use lib.ListN.{getD, length, take, set, length-append}
+use lib.Seq.{sets, take-suc, length-take-le}
 use Rattle.sheet.specs.Layout.{lowFirst, valueBytes}
 
 pub sets-append : (s t l : List ℕ) (i : ℕ) → sets l i (s ++ t) ≡ sets (sets l i s) (i + length s) t

@@ -1,14 +1,14 @@
 -- The unused bytes added up: for each kind which they are, and that the sum is 0 exactly where each of them is.
 use Prim.Native.Nat.{ℕ, zero, suc, _+_}
 use native.Mathlib.Omega.{arith}
-use mathlib.Core.Path.{_≡_, refl, sym, _∙_}
+use mathlib.Core.Path.{_≡_, refl}
 use mathlib.Core.Bool.{Bool, true, false}
 use mathlib.Core.List.{List}
-use lib.Dec.{eqb, ltb}
+use lib.Dec.{eqb}
 use borrow.Author.Tests.{eqb-true, eqb-false, eq-eqb, ne-eqb}
 use Rattle.table.specs.Table.{pick}
 use Rattle.rules.specs.Claim.{both, allBelow}
-use Rattle.sheet.specs.Layout.{byte, uses, eventFine}
+use Rattle.sheet.specs.Layout.{byte, uses}
 use Rattle.sheet.specs.Unused.{sumBelow, unusedSum, pastList, pastField}
 
 -- the event is of another kind

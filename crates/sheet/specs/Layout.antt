@@ -6,8 +6,8 @@ use mathlib.Core.Bool.{Bool, true, false}
 use mathlib.Core.List.{List, [], _∷_, _++_}
 use lib.ListN.{getD, length, take, drop}
 use lib.Dec.{eqb, ltb}
-use Rattle.table.specs.Table.{pick, tabulate, maxTasks, maxRecords, maxList, maxFields}
-use Rattle.rules.specs.Words.{Call, Refusal, SheetSize, SheetTag, Counts, Distance, EventKind, BufferShort, Check, Passed, Failed}
+use Rattle.table.specs.Table.{pick, tabulate, maxTasks, maxRecords, maxFields}
+use Rattle.rules.specs.Words.{Call, SheetSize, SheetTag, Counts, Distance, EventKind, BufferShort, Check, Passed, Failed}
 use Rattle.rules.specs.Claim.{Claim, less, holds, _&_, both, allBelow, test}
 use Rattle.rules.specs.Shape.{within}
 use Rattle.rules.specs.Refuse.{Rule, unless, check}

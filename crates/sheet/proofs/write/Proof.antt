@@ -1,6 +1,5 @@
 -- `sheet::write`: the tests in the order of the refusals; then the sheet is put.
 use native.Mathlib.Omega.{arith}
-use mathlib.Core.Path.{sym, _∙_, ap}
 use Rattle.lists.proofs.Laws.{said-yes, said-no}
 use Rattle.sheet.proofs.Writing.{refused-22, refused-24, refused-25, written, room}
 use borrow.Author.Needs.{needs}

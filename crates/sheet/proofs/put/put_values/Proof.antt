@@ -1,7 +1,7 @@
 -- `sheet::put::put_values`: the loop has written the first i values.
 use Prim.Native.Nat.{_-_, _≤_}
 use native.Mathlib.Omega.{arith}
-use mathlib.Core.Path.{_≡_, refl, _∙_}
+use mathlib.Core.Path.{_≡_, refl}
 use lib.ListN.{length, take, length-set}
 use lib.Seq.{sets, take-length}
 use borrow.Author.Needs.{needs}

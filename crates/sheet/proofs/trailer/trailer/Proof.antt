@@ -2,7 +2,6 @@
 use Prim.Native.Nat.{_-_}
 use lib.ListN.{length}
 use Rattle.sheet.proofs.Bytes.{eight}
-use mathlib.Core.Path.{refl}
 use borrow.Author.Needs.{needs}
 use Rattle.sheet.proofs.trailer.trailer.Statement.{statement}
 use Rattle.sheet.proofs.trailer.trailer.Tie as tie

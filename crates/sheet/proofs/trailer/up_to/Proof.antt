@@ -1,7 +1,6 @@
 -- `sheet::trailer::up_to`: at most `most` is below one more.
 use mathlib.Core.Path.{sym}
 use lib.Dec.{leb·suc-suc}
-use mathlib.Core.Path.{refl}
 use Rattle.sheet.proofs.trailer.up_to.Statement.{statement}
 use Rattle.sheet.proofs.trailer.up_to.Tie as tie
 
