@@ -51,7 +51,13 @@ loop-less : tie.Need-loop-less Inv-loop μ-loop
 loop-less c = omega arith
 
 loop-again : tie.Need-loop-again Inv-loop μ-loop
-loop-again c = (omega arith, rw (c .pair .ensures, c .before .byte-at2 .ensures, c .before .before .byte-at .ensures, c .before .before .before .before .loop .inv .1) (fill-more 128 (λ k. pair (c .before .before .before .before .before .before .args .part .now) (2 * k)) 0 _ (omega arith)))
+loop-again c =
+    let k = c .before .before .before .before in
+    let part = k .before .before .args .part .now in (
+      omega arith,
+      rw (c .pair .ensures, c .before .byte-at2 .ensures, c .before .before .byte-at .ensures, k .loop .inv .1)
+          (fill-more 128 (λ i. pair part (2 * i)) 0 _ (omega arith)),
+    )
 
 returns : tie.Need-returns Inv-loop μ-loop
 unfolding valuesIn numbers tabulate

@@ -1,10 +1,21 @@
 -- `sheet::write`: the tests in the order of the refusals; then the sheet is put.
+use mathlib.Core.Path.{_≡_}
+use mathlib.Core.Bool.{true}
+use Rattle.sheet.specs.Layout.{eventsFine}
 use native.Mathlib.Omega.{arith}
 use Rattle.lists.proofs.Laws.{said-yes, said-no}
-use Rattle.sheet.proofs.Writing.{refused-22, refused-24, refused-25, written, room}
+use Rattle.sheet.proofs.Writing.{given, refused-22, refused-24, refused-25, written, room}
 use borrow.Author.Needs.{needs}
 use Rattle.sheet.proofs.write.Statement.{statement}
 use Rattle.sheet.proofs.write.Tie as tie
+
+-- what stands behind the tests that passed
+given-kept : (c : tie.Else1)
+    → let a = c .before .before .before .before .before .args in given (a .p) (a .n) (a .count) (a .values .now) (a .events .now) ≡ true
+given-kept c = said-yes (c .before .given-fine .ensures) (c .if1 .left)
+
+events-kept : (c : tie.Else2) → let a = c .before .before .before .before .before .before .before .args in eventsFine (a .events .now) (a .count) ≡ true
+events-kept c = said-yes (c .before .events-fine .ensures) (c .if2 .left)
 
 given-fine-requires : tie.Need-given-fine-requires
 given-fine-requires c κs = search needs
@@ -16,7 +27,8 @@ events-fine-requires : tie.Need-events-fine-requires
 events-fine-requires c κs = search needs
 
 returns-2 : tie.Need-returns-2
-returns-2 c = refused-24 _ _ _ _ _ _ (said-yes (c .before .before .before .given-fine .ensures) (c .before .before .if1 .left)) (said-no (c .before .events-fine .ensures) (c .if2 .taken))
+returns-2 c =
+    refused-24 _ _ _ _ _ _ (given-kept (c .before .before)) (said-no (c .before .events-fine .ensures) (c .if2 .taken))
 
 parts-size-requires : tie.Need-parts-size-requires
 parts-size-requires c κs = search needs
@@ -25,7 +37,9 @@ add-length : tie.Need-add-length
 add-length c = search needs
 
 returns-3 : tie.Need-returns-3
-returns-3 c = refused-25 _ _ _ _ _ _ (said-yes (c .before .before .before .before .before .given-fine .ensures) (c .before .before .before .before .if1 .left)) (said-yes (c .before .before .before .events-fine .ensures) (c .before .before .if2 .left)) (omega arith)
+returns-3 c =
+    let c2 = c .before .before in
+    refused-25 _ _ _ _ _ _ (given-kept (c2 .before .before)) (events-kept c2) (omega arith)
 
 trailer-bytes-requires : tie.Need-trailer-bytes-requires
 trailer-bytes-requires c κs = search needs
@@ -34,13 +48,22 @@ slice-aggregate-put-sheet : tie.Need-slice-aggregate-put-sheet
 slice-aggregate-put-sheet c = search needs
 
 put-sheet-requires : tie.Need-put-sheet-requires
-put-sheet-requires c κs = let a = c .before .before .before .before .before .before .before .before .before .before .before .before .args in let h = room (a .p) (a .n) (a .count) (a .values .now) (a .events .now) (said-yes (c .before .before .before .before .before .before .before .before .given-fine .ensures) (c .before .before .before .before .before .before .before .if1 .left)) in omega arith
+put-sheet-requires c κs =
+    let c1 = c .before .before .before .before .before .before .before in
+    let a = c1 .before .before .before .before .before .args in
+    let h = room (a .p) (a .n) (a .count) (a .values .now) (a .events .now) (given-kept c1) in
+    omega arith
 
 same-length : tie.Need-same-length
 same-length c = search needs
 
 returns-4 : tie.Need-returns-4
-returns-4 c = written _ _ _ _ _ _ (said-yes (c .before .before .before .before .before .before .before .before .before .before .before .given-fine .ensures) (c .before .before .before .before .before .before .before .before .before .before .if1 .left)) (said-yes (c .before .before .before .before .before .before .before .before .before .events-fine .ensures) (c .before .before .before .before .before .before .before .before .if2 .left)) (omega arith) (omega arith) (simp (c .before .before .before .before .before .trailer-bytes .ensures) at (c .before .before .put-sheet .ensures))
+returns-4 c =
+    let put = c .before .before in
+    let made = put .before .before .before in
+    let c2 = made .before .before .before in
+    written _ _ _ _ _ _ (given-kept (c2 .before .before)) (events-kept c2) (omega arith) (omega arith)
+    (simp (made .trailer-bytes .ensures) at (put .put-sheet .ensures))
 
 pub write-spec : {M : Type 1} → statement M
 write-spec =

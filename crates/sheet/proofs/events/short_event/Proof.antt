@@ -36,7 +36,11 @@ loop-less : tie.Need-loop-less Inv-loop μ-loop
 loop-less c = omega arith
 
 loop-again : tie.Need-loop-again Inv-loop μ-loop
-loop-again c = (omega arith, rw (c .byte-at .ensures, c .before .before .loop .inv .1) (fill-more 12 (λ i. byte (c .before .before .before .before .args .s .now) (c .before .before .before .before .args .j + i)) 0 _ (omega arith)))
+loop-again c =
+    let a = c .before .before .before .before .args in (
+      omega arith,
+      rw (c .byte-at .ensures, c .before .before .loop .inv .1) (fill-more 12 (λ i. byte (a .s .now) (a .j + i)) 0 _ (omega arith)),
+    )
 
 returns : tie.Need-returns Inv-loop μ-loop
 unfolding tabulate

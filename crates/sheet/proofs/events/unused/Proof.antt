@@ -37,13 +37,20 @@ add-result-2 : tie.Need-add-result-2
 add-result-2 c = search needs
 
 returns : tie.Need-returns
-returns c = omega (arith, llx-sum (twelveAt (c .before .before .before .before .before .before .before .before .args .s .now) (c .before .before .before .before .before .before .before .before .args .j)) (c .before .before .before .if1 .taken))
+returns c =
+    let k1 = c .before .before .before in
+    let a = k1 .before .before .before .before .before .args in
+    omega (arith, llx-sum (twelveAt (a .s .now) (a .j)) (k1 .if1 .taken))
 
 past-list-requires-2 : tie.Need-past-list-requires-2
 past-list-requires-2 c κs = search needs
 
 returns-2 : tie.Need-returns-2
-returns-2 c = omega (arith, scx-sum (twelveAt (c .before .before .before .before .before .before .before .args .s .now) (c .before .before .before .before .before .before .before .args .j)) (c .before .before .if1 .left) (c .before .if2 .taken))
+returns-2 c =
+    let k2 = c .before in
+    let k1 = k2 .before in
+    let a = k1 .before .before .before .before .before .args in
+    omega (arith, scx-sum (twelveAt (a .s .now) (a .j)) (k1 .if1 .left) (k2 .if2 .taken))
 
 past-list-requires-3 : tie.Need-past-list-requires-3
 past-list-requires-3 c κs = search needs
@@ -61,7 +68,12 @@ add-result-4 : tie.Need-add-result-4
 add-result-4 c = search needs
 
 returns-3 : tie.Need-returns-3
-returns-3 c = omega (arith, vlx-sum (twelveAt (c .before .before .before .before .before .before .before .before .before .before .args .s .now) (c .before .before .before .before .before .before .before .before .before .before .args .j)) (c .before .before .before .before .before .if1 .left) (c .before .before .before .before .if2 .left) (c .before .before .before .if3 .taken))
+returns-3 c =
+    let k3 = c .before .before .before in
+    let k2 = k3 .before in
+    let k1 = k2 .before in
+    let a = k1 .before .before .before .before .before .args in
+    omega (arith, vlx-sum (twelveAt (a .s .now) (a .j)) (k1 .if1 .left) (k2 .if2 .left) (k3 .if3 .taken))
 
 past-list-requires-4 : tie.Need-past-list-requires-4
 past-list-requires-4 c κs = search needs
@@ -79,7 +91,13 @@ add-result-6 : tie.Need-add-result-6
 add-result-6 c = search needs
 
 returns-4 : tie.Need-returns-4
-returns-4 c = omega (arith, read-sum (twelveAt (c .before .before .before .before .before .before .before .before .before .before .before .args .s .now) (c .before .before .before .before .before .before .before .before .before .before .before .args .j)) (c .before .before .before .before .before .before .if1 .left) (c .before .before .before .before .before .if2 .left) (c .before .before .before .before .if3 .left) (c .before .before .before .if4 .taken))
+returns-4 c =
+    let k4 = c .before .before .before in
+    let k3 = k4 .before in
+    let k2 = k3 .before in
+    let k1 = k2 .before in
+    let a = k1 .before .before .before .before .before .args in
+    omega (arith, read-sum (twelveAt (a .s .now) (a .j)) (k1 .if1 .left) (k2 .if2 .left) (k3 .if3 .left) (k4 .if4 .taken))
 
 past-list-requires-5 : tie.Need-past-list-requires-5
 past-list-requires-5 c κs = search needs
@@ -97,7 +115,13 @@ add-result-8 : tie.Need-add-result-8
 add-result-8 c = search needs
 
 returns-5 : tie.Need-returns-5
-returns-5 c = omega (arith, step-sum (twelveAt (c .before .before .before .before .before .before .before .before .before .before .before .args .s .now) (c .before .before .before .before .before .before .before .before .before .before .before .args .j)) (c .before .before .before .before .before .before .if1 .left) (c .before .before .before .before .before .if2 .left) (c .before .before .before .before .if3 .left) (c .before .before .before .if4 .left))
+returns-5 c =
+    let k4 = c .before .before .before in
+    let k3 = k4 .before in
+    let k2 = k3 .before in
+    let k1 = k2 .before in
+    let a = k1 .before .before .before .before .before .args in
+    omega (arith, step-sum (twelveAt (a .s .now) (a .j)) (k1 .if1 .left) (k2 .if2 .left) (k3 .if3 .left) (k4 .if4 .left))
 
 pub unused-spec : {M : Type 1} → statement M
 unused-spec =

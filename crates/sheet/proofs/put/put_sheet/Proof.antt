@@ -25,7 +25,13 @@ same-length : tie.Need-same-length
 same-length c = search needs
 
 returns : tie.Need-returns
-returns c = let a = c .before .before .before .before .before .before .before .before .before .before .before .before .before .before .before .before .args in (simp (c .before .before .before .before .before .before .put-bytes .ensures, c .before .before .before .before .before .before .before .before .before .before .put-values .ensures) at (c .before .before .put-bytes2 .ensures)) ∙ three (a .out .now) (valueBytes (a .values .now)) (a .events .now) (a .trailer .now) _ _ (sym (length-value-bytes (a .values .now))) refl
+returns c =
+    let last = c .before .before in
+    let second = last .before .before .before .before in
+    let first = second .before .before .before .before in
+    let a = first .before .before .before .before .before .before .args in
+    (simp (second .put-bytes .ensures, first .put-values .ensures) at (last .put-bytes2 .ensures))
+    ∙ three (a .out .now) (valueBytes (a .values .now)) (a .events .now) (a .trailer .now) _ _ (sym (length-value-bytes (a .values .now))) refl
 
 pub put-sheet-spec : {M : Type 1} → statement M
 put-sheet-spec =

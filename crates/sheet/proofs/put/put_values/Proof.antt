@@ -54,7 +54,10 @@ loop-less : tie.Need-loop-less Inv-loop μ-loop
 loop-less c = omega arith
 
 loop-again : tie.Need-loop-again Inv-loop μ-loop
-loop-again c = let a = c .before .before .before .args in (omega arith, simp length-set (c .before .before .loop .inv .1), rw (c .before .before .loop .inv .2) (value-more (a .out .now) (c .before .before .loop .i) (a .values .now) (omega arith)))
+loop-again c =
+    let a = c .before .before .before .args in
+    let k = c .before .before .loop in
+    (omega arith, simp length-set (k .inv .1), rw (k .inv .2) (value-more (a .out .now) (k .i) (a .values .now) (omega arith)))
 
 same-length : tie.Need-same-length Inv-loop μ-loop
 same-length c = c .before .loop .inv .1
