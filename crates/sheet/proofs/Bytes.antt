@@ -10,7 +10,7 @@ use Rattle.table.specs.Table.{tabulate}
 use Rattle.rules.specs.Claim.{both, allBelow, test}
 use Rattle.rules.specs.Shape.{within}
 use Rattle.sheet.specs.Layout.{byte, callOf, eventFine}
-use Rattle.sheet.specs.Unused.{twelveAt, unusedSum}
+use Rattle.sheet.specs.Event.{twelveAt, unusedSum}
 use Rattle.sheet.proofs.Unused.{all-unused}
 
 pub from-part : (s : List ℕ) (j : ℕ) → tabulate 12 (λ k. byte s (j + k)) ≡ tabulate 12 (byte (drop j s))

@@ -9,7 +9,7 @@ use borrow.Author.Tests.{eqb-true, eqb-false, eq-eqb, ne-eqb}
 use Rattle.table.specs.Table.{pick}
 use Rattle.rules.specs.Claim.{both, allBelow}
 use Rattle.sheet.specs.Layout.{byte, uses}
-use Rattle.sheet.specs.Unused.{sumBelow, unusedSum, pastList, pastField}
+use Rattle.sheet.specs.Event.{sumBelow, unusedSum, pastList, pastField}
 
 -- the event is of another kind
 abbrev pub Not : ℕ → List ℕ → Type 0

@@ -5,7 +5,7 @@ ghost use lib.ListN.{getD, length};
 ghost use lib.Dec.{ltb};
 ghost use Rattle.table.specs.Table.{pick, tabulate};
 ghost use Rattle.sheet.specs.Layout.{byte, callOf, eventFine, eventsFine, eventBytes, eventAt};
-ghost use Rattle.sheet.specs.Unused.{twelveAt, pastList, pastField, unusedSum};
+ghost use Rattle.sheet.specs.Event.{askScx, unlisted, twelveAt, pastList, pastField, unusedSum};
 use table::Ask;
 use table::Call;
 
@@ -42,6 +42,31 @@ fn short_event(s: &[u8], j: usize) -> Event
     e
 }
 
+// What an SCX asks for, in the twelve bytes from j on.
+fn scx_at(s: &[u8], j: usize) -> Ask
+    requires { ⌜ j + 12 ≤ length (now s) ⌝ }
+    ensures { λ o. ⌜ o ≡ askScx (twelveAt (now (s .entry)) j) ⌝ }
+{
+    Ask::Scx {
+        n: s[j + 2],
+        r: s[j + 7],
+        written: s[j + 8],
+        field: s[j + 9],
+        new: pair(s[j + 10], s[j + 11]),
+    }
+}
+
+// A call that has no list.
+fn unlisted(task: u8, ask: Ask) -> Call
+    ensures { λ o. ⌜ o ≡ unlisted task ask ⌝ }
+{
+    Call {
+        task,
+        ask,
+        list: [0, 0, 0, 0],
+    }
+}
+
 // The call that the twelve bytes from j on say.
 fn call_at(s: &[u8], j: usize) -> Call
     requires { ⌜ j + 12 ≤ length (now s) ⌝ }
@@ -49,29 +74,17 @@ fn call_at(s: &[u8], j: usize) -> Call
 {
     let kind = s[j];
     let task = s[j + 1];
-    let n = s[j + 2];
-    let none = [0, 0, 0, 0];
     let list = [s[j + 3], s[j + 4], s[j + 5], s[j + 6]];
     if kind == 1 {
         let ask = Ask::Llx { r: s[j + 3] };
-        return Call {
-            task,
-            ask,
-            list: none,
-        };
+        return unlisted(task, ask);
     }
     if kind == 2 {
-        let ask = Ask::Scx {
-            n,
-            r: s[j + 7],
-            written: s[j + 8],
-            field: s[j + 9],
-            new: pair(s[j + 10], s[j + 11]),
-        };
+        let ask = scx_at(s, j);
         return Call { task, ask, list };
     }
     if kind == 3 {
-        let ask = Ask::Vlx { n };
+        let ask = Ask::Vlx { n: s[j + 2] };
         return Call { task, ask, list };
     }
     if kind == 4 {
@@ -79,18 +92,9 @@ fn call_at(s: &[u8], j: usize) -> Call
             r: s[j + 3],
             f: s[j + 9],
         };
-        return Call {
-            task,
-            ask,
-            list: none,
-        };
+        return unlisted(task, ask);
     }
-    let ask = Ask::Step;
-    Call {
-        task,
-        ask,
-        list: none,
-    }
+    unlisted(task, Ask::Step)
 }
 
 // Event i, by slice and number: read where it lies, or from a copy where the bytes end before it does.

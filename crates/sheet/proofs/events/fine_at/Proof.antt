@@ -3,7 +3,7 @@ use Prim.Native.Nat.{ℕ}
 use mathlib.Core.Path.{_∙_, ap}
 use lib.Dec.{eqb}
 use Rattle.lists.proofs.Laws.{both-yes, both-no}
-use Rattle.sheet.specs.Unused.{twelveAt}
+use Rattle.sheet.specs.Event.{twelveAt}
 use Rattle.sheet.proofs.Bytes.{by-sum}
 use borrow.Author.Needs.{needs}
 use Rattle.sheet.proofs.events.fine_at.Statement.{statement}
@@ -19,10 +19,15 @@ unused-requires : tie.Need-unused-requires
 unused-requires c κs = search needs
 
 returns : tie.Need-returns
-returns c = both-yes (c .before .before .within .ensures) (c .before .if1 .taken) (ap (λ (k : ℕ). eqb k 0) (c .unused .ensures)) ∙ by-sum (twelveAt (c .before .before .before .before .before .args .s .now) (c .before .before .before .before .before .args .j))
+returns c =
+    let a = c .before .before .before .before .before .args in
+    both-yes (c .before .before .within .ensures) (c .before .if1 .taken) (ap (λ (k : ℕ). eqb k 0) (c .unused .ensures))
+    ∙ by-sum (twelveAt (a .s .now) (a .j))
 
 returns-2 : tie.Need-returns-2
-returns-2 c = both-no _ (c .before .within .ensures) (c .if1 .left) ∙ by-sum (twelveAt (c .before .before .before .before .args .s .now) (c .before .before .before .before .args .j))
+returns-2 c =
+    let a = c .before .before .before .before .args in
+    both-no _ (c .before .within .ensures) (c .if1 .left) ∙ by-sum (twelveAt (a .s .now) (a .j))
 
 pub fine-at-spec : {M : Type 1} → statement M
 fine-at-spec =

@@ -1,6 +1,6 @@
 -- `sheet::events::unused`: the bytes that each kind leaves, added up.
 use native.Mathlib.Omega.{arith}
-use Rattle.sheet.specs.Unused.{twelveAt}
+use Rattle.sheet.specs.Event.{twelveAt}
 use Rattle.sheet.proofs.Unused.{llx-sum, scx-sum, vlx-sum, read-sum, step-sum}
 use borrow.Author.Needs.{needs}
 use Rattle.sheet.proofs.events.unused.Statement.{statement}

@@ -1,10 +1,12 @@
--- For the code of an event: its twelve bytes where they lie, and the unused ones added up. The sum is 0 exactly where each of them is
--- (proofs/Unused.antt).
+-- For the code of an event: its twelve bytes where they lie, parts of the call that they say, and the unused ones added up. The sum is 0
+-- exactly where each of them is (proofs/Unused.antt).
 use Prim.Native.Nat.{ℕ, zero, suc, _+_}
 use mathlib.Core.List.{List, [], _∷_}
 use lib.Dec.{ltb}
+use lib.ListN.{replicate}
 use Rattle.table.specs.Table.{pick}
-use Rattle.sheet.specs.Layout.{byte, uses, eventSize}
+use Rattle.rules.specs.Words.{Ask, AskScx, Call}
+use Rattle.sheet.specs.Layout.{byte, pair, uses, eventSize}
 
 -- f 0 + f 1 + .. + f (n - 1)
 unfoldable pub sumBelow : ℕ → (ℕ → ℕ) → ℕ
@@ -26,3 +28,10 @@ abbrev pub twelveAt : List ℕ → ℕ → List ℕ
 twelveAt s j =
     byte s j ∷ byte s (j + 1) ∷ byte s (j + 2) ∷ byte s (j + 3) ∷ byte s (j + 4) ∷ byte s (j + 5)
     ∷ byte s (j + 6) ∷ byte s (j + 7) ∷ byte s (j + 8) ∷ byte s (j + 9) ∷ byte s (j + 10) ∷ byte s (j + 11) ∷ []
+
+-- what an SCX asks for; a call that has no list
+abbrev pub askScx : List ℕ → Ask
+askScx e = AskScx (byte e 2) (byte e 7) (byte e 8) (byte e 9) (pair e 10)
+
+abbrev pub unlisted : ℕ → Ask → Call
+unlisted t ask = record { task = t; ask = ask; list = replicate 4 0 }
