@@ -30,14 +30,14 @@ module _ (h s : List ℕ) (at : Layout) (e : sheetOf s ≡ Read at) (l : length 
 
   -- the layout behind the heading
   abbrev moved : Layout
-  moved = record { p = at .p; n = at .n; events = at .events; from = length h + at .from }
+  moved = record { p = at .p; n = at .n; count = at .count; from = length h + at .from }
 
   trailer-same : trailer (h ++ s) ≡ trailer s
   trailer-same = behind h s (length s - 8) (length (h ++ s) - 8) (omega (arith, size-is, inside .whole))
 
   -- what the test of the distance says
-  was : Says 0 (distanceFine (distance (trailer s)) (at .n) (at .events) (length s - 8))
-  was = told 0 (distanceFine (distance (trailer s)) (at .n) (at .events) (length s - 8)) (kept .back-kept)
+  was : Says 0 (distanceFine (distance (trailer s)) (at .n) (at .count) (length s - 8))
+  was = told 0 (distanceFine (distance (trailer s)) (at .n) (at .count) (length s - 8)) (kept .back-kept)
 
   from-is : at .from ≡ length s - 8 - distance (trailer s)
   unfolding layoutOf
@@ -47,11 +47,11 @@ module _ (h s : List ℕ) (at : Layout) (e : sheetOf s ≡ Read at) (l : length 
   unfolding layoutOf
   layout-same =
       let f : length h + at .from ≡ length (h ++ s) - 8 - distance (trailer s) = omega (arith, size-is, inside .whole, from-is, was .1) in
-      rw (trailer-same, ← f) (ap (λ (x : Layout). record { p = x .p; n = x .n; events = x .events; from = length h + at .from }) (kept .layout))
+      rw (trailer-same, ← f) (ap (λ (x : Layout). record { p = x .p; n = x .n; count = x .count; from = length h + at .from }) (kept .layout))
 
   events-same : eventsPart (h ++ s) moved ≡ eventsPart s at
   unfolding eventsPart
-  events-same = ap (λ (x : List ℕ). take (12 * at .events) x) (behind h s (at .from + 8 * at .n) (length h + at .from + 8 * at .n) (omega arith))
+  events-same = ap (λ (x : List ℕ). take (12 * at .count) x) (behind h s (at .from + 8 * at .n) (length h + at .from + 8 * at .n) (omega arith))
 
   values-same : valuesPart (h ++ s) moved ≡ valuesPart s at
   unfolding valuesPart
@@ -64,7 +64,7 @@ module _ (h s : List ℕ) (at : Layout) (e : sheetOf s ≡ Read at) (l : length 
         size-kept = passes 0 (sizeFine (length (h ++ s))) (omega (arith, size-is, inside .whole), omega arith);
         tag-kept = rw trailer-same (kept .tag-kept);
         counts-kept = kept .counts-kept;
-        back-kept = rw trailer-same (passes 0 (distanceFine (distance (trailer s)) (at .n) (at .events) (length (h ++ s) - 8)) (was .0, omega (arith, size-is, inside .whole, was .1)));
+        back-kept = rw trailer-same (passes 0 (distanceFine (distance (trailer s)) (at .n) (at .count) (length (h ++ s) - 8)) (was .0, omega (arith, size-is, inside .whole, was .1)));
         events-kept = rw events-same (kept .events-kept);
       }
 

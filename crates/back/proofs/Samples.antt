@@ -13,11 +13,11 @@ use Rattle.back.specs.Example.{exampleValues, exampleEvents, exampleByte
 example-size : length exampleBytes ≡ 196
 example-size = refl
 
-example-read : sheetOf exampleBytes ≡ Read (record { p = 1; n = 1; events = 15; from = 0 })
+example-read : sheetOf exampleBytes ≡ Read (record { p = 1; n = 1; count = 15; from = 0 })
 unfolding sheetOf layoutOf eventsPart eventsFine eventFine uses both allBelow
 example-read = refl
 
-example-parts : partsOf exampleBytes (record { p = 1; n = 1; events = 15; from = 0 }) ≡ record { p = 1; n = 1; values = exampleValues; events = exampleEvents }
+example-parts : partsOf exampleBytes (record { p = 1; n = 1; count = 15; from = 0 }) ≡ record { p = 1; n = 1; values = exampleValues; events = exampleEvents }
 unfolding partsOf valuesPart eventsPart numbers tabulate
 example-parts = refl
 

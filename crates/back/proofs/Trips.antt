@@ -35,7 +35,7 @@ module _ (x : Parts) {space : ℕ} (below : AllBelow 65536 (x .values)) (ok : Ac
   last = trailerBytes (x .p) (x .n) (countOf x)
 
   abbrev at : Layout
-  at = record { p = x .p; n = x .n; events = countOf x; from = 0 }
+  at = record { p = x .p; n = x .n; count = countOf x; from = 0 }
 
   front-size : length front ≡ 8 * x .n
   front-size = omega (arith, length-value-bytes (x .values), sized .values-are)
@@ -121,22 +121,22 @@ module _ (s : List ℕ) (at : Layout) (below : AllBelow 256 s) (e : sheetOf s �
   unfolding valuesPart eventsPart
   cut =
       let behind-values : drop (8 * at .n) rest ≡ drop (at .from + 8 * at .n) s = drop-drop (8 * at .n) (at .from) s in
-      let k : at .from + 8 * at .n + 12 * at .events ≡ length s - 8 = omega (arith, inside .whole) in
-      let behind-events : drop (12 * at .events) (drop (at .from + 8 * at .n) s) ≡ trailer s = drop-drop (12 * at .events) (at .from + 8 * at .n) s ∙ ap (λ (j : ℕ). drop j s) k in
+      let k : at .from + 8 * at .n + 12 * at .count ≡ length s - 8 = omega (arith, inside .whole) in
+      let behind-events : drop (12 * at .count) (drop (at .from + 8 * at .n) s) ≡ trailer s = drop-drop (12 * at .count) (at .from + 8 * at .n) s ∙ ap (λ (j : ℕ). drop j s) k in
       sym (take-append-drop (8 * at .n) rest)
       ∙ ap (λ (l : List ℕ). take (8 * at .n) rest ++ l)
       (behind-values
-      ∙ sym (take-append-drop (12 * at .events) (drop (at .from + 8 * at .n) s))
-      ∙ ap (λ (l : List ℕ). take (12 * at .events) (drop (at .from + 8 * at .n) s) ++ l) behind-events)
-      ∙ sym (append-assoc (take (8 * at .n) rest) (take (12 * at .events) (drop (at .from + 8 * at .n) s)) (trailer s))
+      ∙ sym (take-append-drop (12 * at .count) (drop (at .from + 8 * at .n) s))
+      ∙ ap (λ (l : List ℕ). take (12 * at .count) (drop (at .from + 8 * at .n) s) ++ l) behind-events)
+      ∙ sym (append-assoc (take (8 * at .n) rest) (take (12 * at .count) (drop (at .from + 8 * at .n) s)) (trailer s))
 
   values-size : length (valuesPart s at) ≡ 8 * at .n
   unfolding valuesPart
   values-size = length-take-le (8 * at .n) rest (omega (arith, length-drop (at .from) s, inside .whole))
 
-  events-size : length (eventsPart s at) ≡ 12 * at .events
+  events-size : length (eventsPart s at) ≡ 12 * at .count
   unfolding eventsPart
-  events-size = length-take-le (12 * at .events) (drop (at .from + 8 * at .n) s) (omega (arith, length-drop (at .from + 8 * at .n) s, inside .whole))
+  events-size = length-take-le (12 * at .count) (drop (at .from + 8 * at .n) s) (omega (arith, length-drop (at .from + 8 * at .n) s, inside .whole))
 
   trailer-size : length (trailer s) ≡ 8
   trailer-size = omega (arith, length-drop (length s - 8) s, inside .whole)
@@ -153,7 +153,7 @@ module _ (s : List ℕ) (at : Layout) (below : AllBelow 256 s) (e : sheetOf s �
   values-written : valueBytes (numbers (4 * at .n) (valuesPart s at)) ≡ valuesPart s at
   values-written = bytes-back (4 * at .n) (valuesPart s at) (omega (arith, values-size)) values-below
 
-  count-is : length (eventsPart s at) / 12 ≡ at .events
+  count-is : length (eventsPart s at) / 12 ≡ at .count
   count-is = omega (arith, events-size)
 
   -- the trailer's bytes, by what its tests say
@@ -162,10 +162,10 @@ module _ (s : List ℕ) (at : Layout) (below : AllBelow 256 s) (e : sheetOf s �
       let q = told 0 (tagFine (trailer s)) (rules .tag-kept) in
       (eqb-true (byte (trailer s) 0) 82 (q .0), eqb-true (byte (trailer s) 1) 83 (q .1))
 
-  distance-told : distance (trailer s) ≡ partsSize (at .n) (at .events)
+  distance-told : distance (trailer s) ≡ partsSize (at .n) (at .count)
   distance-told =
-      eqb-true (distance (trailer s)) (partsSize (at .n) (at .events))
-      (told 0 (distanceFine (distance (trailer s)) (at .n) (at .events) (length s - 8)) (rules .back-kept) .0)
+      eqb-true (distance (trailer s)) (partsSize (at .n) (at .count))
+      (told 0 (distanceFine (distance (trailer s)) (at .n) (at .count) (length s - 8)) (rules .back-kept) .0)
 
   p-is : at .p ≡ byte (trailer s) 2
   unfolding layoutOf
@@ -175,25 +175,25 @@ module _ (s : List ℕ) (at : Layout) (below : AllBelow 256 s) (e : sheetOf s �
   unfolding layoutOf
   n-is = ap (λ (y : Layout). y .n) (rules .layout)
 
-  events-is : at .events ≡ pair (trailer s) 4
+  events-is : at .count ≡ pair (trailer s) 4
   unfolding layoutOf
-  events-is = ap (λ (y : Layout). y .events) (rules .layout)
+  events-is = ap (λ (y : Layout). y .count) (rules .layout)
 
-  trailer-written : trailerBytes (at .p) (at .n) (at .events) ≡ trailer s
+  trailer-written : trailerBytes (at .p) (at .n) (at .count) ≡ trailer s
   trailer-written =
       let t = trailer s in
       let heads : _≡_ {A = List ℕ} (82 ∷ 83 ∷ at .p ∷ at .n ∷ []) (byte t 0 ∷ byte t 1 ∷ byte t 2 ∷ byte t 3 ∷ []) =
       rw (tag-told .0, tag-told .1, p-is, n-is) refl
       in
-      let count : lowFirst (at .events) ≡ byte t 4 ∷ byte t 5 ∷ [] =
+      let count : lowFirst (at .count) ≡ byte t 4 ∷ byte t 5 ∷ [] =
       ap lowFirst events-is ∙ low-first (byte t 4) (byte t 5) (trailer-below 4 (omega arith)) (trailer-below 5 (omega arith))
       in
-      let back : lowFirst (partsSize (at .n) (at .events)) ≡ byte t 6 ∷ byte t 7 ∷ [] =
+      let back : lowFirst (partsSize (at .n) (at .count)) ≡ byte t 6 ∷ byte t 7 ∷ [] =
       ap lowFirst (sym distance-told) ∙ low-first (byte t 6) (byte t 7) (trailer-below 6 (omega arith)) (trailer-below 7 (omega arith))
       in
       ap₂ _++_ (ap₂ _++_ heads count) back ∙ eight-are t trailer-size
 
-  sheet-again : sheetBytes (at .p) (at .n) (at .events) (numbers (4 * at .n) (valuesPart s at)) (eventsPart s at) ≡ rest
+  sheet-again : sheetBytes (at .p) (at .n) (at .count) (numbers (4 * at .n) (valuesPart s at)) (eventsPart s at) ≡ rest
   unfolding sheetBytes
   sheet-again = rw (values-written, trailer-written) (sym cut)
 
@@ -202,19 +202,19 @@ module _ (s : List ℕ) (at : Layout) (below : AllBelow 256 s) (e : sheetOf s �
   written-again = rw count-is sheet-again
 
   -- the writer accepts the parts
-  rest-size : length rest ≡ sheetSize (at .n) (at .events)
+  rest-size : length rest ≡ sheetSize (at .n) (at .count)
   rest-size = omega (arith, length-drop (at .from) s, inside .whole)
 
   accepts : (space : ℕ) → length rest ≤ space
-      → Accepts (at .p) (at .n) (at .events) (numbers (4 * at .n) (valuesPart s at)) (eventsPart s at) space
+      → Accepts (at .p) (at .n) (at .count) (numbers (4 * at .n) (valuesPart s at)) (eventsPart s at) space
   unfolding numbers
   accepts space l =
       let values-are : length (numbers (4 * at .n) (valuesPart s at)) ≡ 4 * at .n = length-tabulate (4 * at .n) (λ i. pair (valuesPart s at) (2 * i)) in
-      let counts = told 0 (countsFine (at .p) (at .n) (at .events)) (rules .counts-kept) in
+      let counts = told 0 (countsFine (at .p) (at .n) (at .count)) (rules .counts-kept) in
       record {
         given-kept =
-            passes 0 (givenFine (at .p) (at .n) (at .events) (length (numbers (4 * at .n) (valuesPart s at))) (length (eventsPart s at)))
-            (counts, (eq-eqb (length (numbers (4 * at .n) (valuesPart s at))) (4 * at .n) values-are, eq-eqb (length (eventsPart s at)) (12 * at .events) events-size));
+            passes 0 (givenFine (at .p) (at .n) (at .count) (length (numbers (4 * at .n) (valuesPart s at))) (length (eventsPart s at)))
+            (counts, (eq-eqb (length (numbers (4 * at .n) (valuesPart s at))) (4 * at .n) values-are, eq-eqb (length (eventsPart s at)) (12 * at .count) events-size));
         events-kept = rules .events-kept;
         fits = omega (arith, rest-size);
       }

@@ -28,7 +28,7 @@ pub sheet-write : Once 3 sheet-write-kinds.ps sheet-write-kinds.r sheet-write-re
 sheet-write κs a o p s t e f = e .0 ∙ sym (f .0)
 
 -- the buffer is the sixth parameter
-pub sheet-write-buffer : (κs : Lfts 3) (a : Dens κs sheet-write-kinds.ps) (o p : resT sheet-write-kinds.r κs .Denot)
+pub sheet-write-lent : (κs : Lfts 3) (a : Dens κs sheet-write-kinds.ps) (o p : resT sheet-write-kinds.r κs .Denot)
     (s t : AtExit (endedOf 3 sheet-write-kinds.ps sheet-write-kinds.r) κs)
     → sheet-write-reads.Post κs a o s → sheet-write-reads.Post κs a p t → now (s .1 .1 .1 .1 .1 .0) ≡ now (t .1 .1 .1 .1 .1 .0)
-sheet-write-buffer κs a o p s t e f = e .1 ∙ sym (f .1)
+sheet-write-lent κs a o p s t e f = e .1 ∙ sym (f .1)

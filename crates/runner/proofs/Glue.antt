@@ -76,7 +76,7 @@ module _ (s : List ℕ) (at : Layout) (e : sheetOf s ≡ Read at) where
   es = eventsPart s at
 
   abbrev count : ℕ
-  count = at .events
+  count = at .count
 
   few : count ≤ 65535
   few = omega (arith, read-inside e .most-events)
@@ -93,10 +93,10 @@ module _ (s : List ℕ) (at : Layout) (e : sheetOf s ≡ Read at) where
       → Plays m es count old mid o
       → Put mid (o .next) (joined (recordLineAt (o .m)) (at .n)) end q × (length (joined (recordLineAt (o .m)) (at .n)) ≤ 38 * at .n)
       → Put end q (tallyLine (o .tally)) new r
-      → Put old 0 (runOf s at) new r × (length (runOf s at) ≤ 42 * at .events + 38 * at .n + 20)
+      → Put old 0 (runOf s at) new r × (length (runOf s at) ≤ 42 * at .count + 38 * at .n + 20)
   by-parts o old mid end new q r w records tally = (
     subst (λ (x : List ℕ). Put old 0 x new r) text (w .lines ⟫ records .0 ⟫ tally),
-    subst (λ (x : List ℕ). length x ≤ 42 * at .events + 38 * at .n + 20) text long,
+    subst (λ (x : List ℕ). length x ≤ 42 * at .count + 38 * at .n + 20) text long,
   )
     where
       text : joined (lineIn m es) count ++ joined (recordLineAt (o .m)) (at .n) ++ tallyLine (o .tally) ≡ runOf s at
@@ -104,19 +104,19 @@ module _ (s : List ℕ) (at : Layout) (e : sheetOf s ≡ Read at) where
           ap₂ (λ (x : Machine) (t : Tally). joined (lineIn m es) count ++ joined (recordLineAt x) (at .n) ++ tallyLine t) (w .machine) (w .tally)
           ∙ same-run
 
-      long : length (joined (lineIn m es) count ++ joined (recordLineAt (o .m)) (at .n) ++ tallyLine (o .tally)) ≤ 42 * at .events + 38 * at .n + 20
+      long : length (joined (lineIn m es) count ++ joined (recordLineAt (o .m)) (at .n) ++ tallyLine (o .tally)) ≤ 42 * at .count + 38 * at .n + 20
       long =
           rw
           (length-append (joined (lineIn m es) count ++ joined (recordLineAt (o .m)) (at .n)) (tallyLine (o .tally)), length-append (joined (lineIn m es) count) (joined (recordLineAt (o .m)) (at .n)))
           (omega (arith, w .most, records .1, tally-most (o .tally)))
 
   pub run-is : (size : ℕ) (first : Machine) (o : Played) (old mid end new : List ℕ) (q r : ℕ)
-      → size ≡ 12 * at .events
+      → size ≡ 12 * at .count
       → first ≡ m
       → Plays first (take size (drop (at .from + 8 * at .n) s)) count old mid o
       → Put mid (o .next) (joined (recordLineAt (o .m)) (at .n)) end q × (length (joined (recordLineAt (o .m)) (at .n)) ≤ 38 * at .n)
       → Put end q (tallyLine (o .tally)) new r
-      → Put old 0 (runOf s at) new r × (length (runOf s at) ≤ 42 * at .events + 38 * at .n + 20)
+      → Put old 0 (runOf s at) new r × (length (runOf s at) ≤ 42 * at .count + 38 * at .n + 20)
   unfolding eventsPart
   run-is size first o old mid end new q r ez ef w records tally =
       by-parts o old mid end new q r

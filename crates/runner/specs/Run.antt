@@ -51,7 +51,7 @@ unfoldable pub tableOf : List ℕ → Layout → Machine
 tableOf s at = fresh (at .p) (at .n) (partsOf s at .values) .m
 
 abbrev pub runOf : List ℕ → Layout → List ℕ
-runOf s at = runText (tableOf s at) (eventsPart s at) (at .events) (at .n)
+runOf s at = runText (tableOf s at) (eventsPart s at) (at .count) (at .n)
 
 abbrev pub textAs : List ℕ → Sheet → List ℕ
 textAs s (Read at) = runOf s at
@@ -63,7 +63,7 @@ textOf s = textAs s (sheetOf s)
 -- THE LENT BUFFER: the runner asks for room for the longest text that so many events and records could have, which is known before the
 -- run (six bytes for each number with what comes after it). A shorter buffer stays as it was, and the answer is how long it must be.
 abbrev pub roomAs : Sheet → ℕ
-roomAs (Read at) = 42 * at .events + 38 * at .n + 20
+roomAs (Read at) = 42 * at .count + 38 * at .n + 20
 roomAs (Refused why) = 8
 
 unfoldable pub ranOf : List ℕ → ℕ → Ran

@@ -57,12 +57,12 @@ fn table_of(s: &[u8], at: Layout) -> Machine
 // The run of a sheet that is not refused.
 fn put_run(s: &[u8], at: Layout, out: &mut [u8]) -> usize
     requires { ⌜ sheetOf (now s) ≡ Read at ⌝ }
-    ensures { λ r. ⌜ Put (now (out .entry)) 0 (runOf (now (s .entry)) at) (now (out .exit)) r × (length (runOf (now (s .entry)) at) ≤ 42 * at .events + 38 * at .n + 20) ⌝ }
+    ensures { λ r. ⌜ Put (now (out .entry)) 0 (runOf (now (s .entry)) at) (now (out .exit)) r × (length (runOf (now (s .entry)) at) ≤ 42 * at .count + 38 * at .n + 20) ⌝ }
 {
     let first = table_of(s, at);
     let from = at.from + 8 * at.n as usize;
-    let end = from + 12 * at.events as usize;
-    let played = play::play(&s[from..end], at.events, first, out);
+    let end = from + 12 * at.count as usize;
+    let played = play::play(&s[from..end], at.count, first, out);
     let m = played.m;
     let tally = played.tally;
     let next = put_records(out, played.next, m, at.n);
@@ -76,7 +76,7 @@ pub fn run(s: &[u8], out: &mut [u8]) -> Ran
     let read = sheet::layout_of(s);
     match read {
         Sheet::Read { at } => {
-            let room = EVENT_LINE * at.events as usize + RECORD_LINE * at.n as usize + TALLY_LINE;
+            let room = EVENT_LINE * at.count as usize + RECORD_LINE * at.n as usize + TALLY_LINE;
             if out.len() < room {
                 return Ran::Short { room };
             }

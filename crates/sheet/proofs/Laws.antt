@@ -68,18 +68,18 @@ kept-read {s} {at} k =
 
 -- where the parts lie, and the ranges of the counts
 pub record Inside (s : List ℕ) (at : Layout) : Type 0 where
-  pub whole : at .from + 8 * at .n + 12 * at .events + 8 ≡ length s
+  pub whole : at .from + 8 * at .n + 12 * at .count + 8 ≡ length s
   pub tasks : (1 ≤ at .p) × (at .p ≤ 8)
   pub records : (1 ≤ at .n) × (at .n ≤ 32)
-  pub most-events : at .events ≤ 5000
+  pub most-events : at .count ≤ 5000
   pub most-bytes : length s ≤ 65000
 
 pub read-inside : {s : List ℕ} {at : Layout} → sheetOf s ≡ Read at → Inside s at
 read-inside {s} {at} e =
     let k = read-kept e in
-    let q = told 0 (countsFine (at .p) (at .n) (at .events)) (k .counts-kept) in
+    let q = told 0 (countsFine (at .p) (at .n) (at .count)) (k .counts-kept) in
     let l = long-enough s (k .size-kept) in
-    let f : at .from + 8 * at .n + 12 * at .events ≡ length s - 8 = rw (k .layout) (filled s (rw (k .layout) at (k .back-kept))) in
+    let f : at .from + 8 * at .n + 12 * at .count ≡ length s - 8 = rw (k .layout) (filled s (rw (k .layout) at (k .back-kept))) in
     record {
       whole = omega arith;
       tasks = (q .0 .0, omega (arith, q .0 .1));

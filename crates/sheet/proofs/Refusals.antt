@@ -22,13 +22,13 @@ abbrev pub tag : List ℕ → Bool
 tag s = test 0 (tagFine (trailer s))
 
 abbrev pub counts : Layout → Bool
-counts at = test 0 (countsFine (at .p) (at .n) (at .events))
+counts at = test 0 (countsFine (at .p) (at .n) (at .count))
 
 abbrev pub back : List ℕ → Layout → Bool
-back s at = test 0 (distanceFine (distance (trailer s)) (at .n) (at .events) (length s - 8))
+back s at = test 0 (distanceFine (distance (trailer s)) (at .n) (at .count) (length s - 8))
 
 abbrev pub events : List ℕ → Layout → Bool
-events s at = eventsFine (eventsPart s at) (at .events)
+events s at = eventsFine (eventsPart s at) (at .count)
 
 module _ (s : List ℕ) where
   pub refused-20 : size s ≡ false → Refused SheetSize ≡ sheetOf s
@@ -61,11 +61,11 @@ module _ (s : List ℕ) where
 pub long-enough : (s : List ℕ) → size s ≡ true → 8 ≤ length s
 long-enough s a = told 0 (sizeFine (length s)) a .0
 
-pub filled : (s : List ℕ) → back s (layoutOf s) ≡ true → layoutOf s .from + 8 * layoutOf s .n + 12 * layoutOf s .events ≡ length s - 8
+pub filled : (s : List ℕ) → back s (layoutOf s) ≡ true → layoutOf s .from + 8 * layoutOf s .n + 12 * layoutOf s .count ≡ length s - 8
 unfolding layoutOf
 filled s a =
-    let q = told 0 (distanceFine (distance (trailer s)) (layoutOf s .n) (layoutOf s .events) (length s - 8)) a in
-    let e = eqb-true (distance (trailer s)) (8 * layoutOf s .n + 12 * layoutOf s .events) (q .0) in
+    let q = told 0 (distanceFine (distance (trailer s)) (layoutOf s .n) (layoutOf s .count) (length s - 8)) a in
+    let e = eqb-true (distance (trailer s)) (8 * layoutOf s .n + 12 * layoutOf s .count) (q .0) in
     let l = q .1 in
     omega arith
 
@@ -83,16 +83,16 @@ module _ (s t : List ℕ) (et : t ≡ tabulate 8 (byte (trailer s))) where
     pub counts-is : counts at ≡ counts (layoutOf s)
     counts-is = ap counts at-is
 
-    pub back-is : (d : ℕ) → d ≡ byte t 6 + 256 * byte t 7 → test 0 (distanceFine d (at .n) (at .events) (length s - 8)) ≡ back s (layoutOf s)
+    pub back-is : (d : ℕ) → d ≡ byte t 6 + 256 * byte t 7 → test 0 (distanceFine d (at .n) (at .count) (length s - 8)) ≡ back s (layoutOf s)
     unfolding tabulate
     back-is d ed = rw (ed, et, at-is) refl
 
-    pub filled-is : back s (layoutOf s) ≡ true → at .from + 8 * at .n + 12 * at .events ≡ length s - 8
+    pub filled-is : back s (layoutOf s) ≡ true → at .from + 8 * at .n + 12 * at .count ≡ length s - 8
     filled-is a = rw at-is (filled s a)
 
     pub events-is : back s (layoutOf s) ≡ true
-        → eventsFine (take (length s - 8 - (at .from + 8 * at .n)) (drop (at .from + 8 * at .n) s)) (at .events) ≡ events s (layoutOf s)
+        → eventsFine (take (length s - 8 - (at .from + 8 * at .n)) (drop (at .from + 8 * at .n) s)) (at .count) ≡ events s (layoutOf s)
     unfolding eventsPart
     events-is a =
-        let e : length s - 8 - (at .from + 8 * at .n) ≡ 12 * at .events = let h = filled-is a in omega arith in
-        rw e (ap (λ (x : Layout). eventsFine (eventsPart s x) (x .events)) at-is)
+        let e : length s - 8 - (at .from + 8 * at .n) ≡ 12 * at .count = let h = filled-is a in omega arith in
+        rw e (ap (λ (x : Layout). eventsFine (eventsPart s x) (x .count)) at-is)

@@ -6,7 +6,7 @@ use mathlib.Core.Bool.{Bool, true, false}
 use mathlib.Core.List.{List, [], _∷_, _++_}
 use lib.ListN.{getD, length, take, drop}
 use lib.Dec.{eqb, ltb}
-use Rattle.table.specs.Table.{pick, tabulate, maxTasks, maxRecords, maxFields}
+use Rattle.table.specs.Table.{pick, tabulate, maxTasks, maxRecords, maxEvents, maxFields}
 use Rattle.rules.specs.Words.{Call, SheetSize, SheetTag, Counts, Distance, EventKind, BufferShort, Check, Passed, Failed}
 use Rattle.rules.specs.Claim.{Claim, less, holds, _&_, both, allBelow, test}
 use Rattle.rules.specs.Shape.{within}
@@ -33,9 +33,6 @@ trailerSize = 8
 
 abbrev pub maxSheet : ℕ
 maxSheet = 65000
-
-abbrev pub maxEvents : ℕ
-maxEvents = 5000
 
 abbrev pub upTo : ℕ → ℕ → Claim
 upTo most k = less k (suc most)
@@ -98,20 +95,20 @@ distance t = pair t 6
 
 -- what a trailer at the end of some bytes says
 abbrev pub layoutBy : List ℕ → ℕ → Layout
-layoutBy t size = record { p = byte t 2; n = byte t 3; events = pair t 4; from = size - trailerSize - distance t }
+layoutBy t size = record { p = byte t 2; n = byte t 3; count = pair t 4; from = size - trailerSize - distance t }
 
 unfoldable pub layoutOf : List ℕ → Layout
 layoutOf s = layoutBy (trailer s) (length s)
 
 -- the bytes of the initial values of n records and of the events
 abbrev pub partsSize : ℕ → ℕ → ℕ
-partsSize n events = recordSize * n + eventSize * events
+partsSize n count = recordSize * n + eventSize * count
 
 unfoldable pub valuesPart : List ℕ → Layout → List ℕ
 valuesPart s at = take (recordSize * at .n) (drop (at .from) s)
 
 unfoldable pub eventsPart : List ℕ → Layout → List ℕ
-eventsPart s at = take (eventSize * at .events) (drop (at .from + recordSize * at .n) s)
+eventsPart s at = take (eventSize * at .count) (drop (at .from + recordSize * at .n) s)
 
 -- what a sheet must keep: its size, the tag, the ranges of P, N and the event count, the distance, which "must be 8N + 12E" and may not
 -- reach before the first byte
@@ -122,19 +119,19 @@ abbrev pub tagFine : List ℕ → Claim
 tagFine t = holds (eqb (byte t 0) 82) & holds (eqb (byte t 1) 83)
 
 abbrev pub countsFine : ℕ → ℕ → ℕ → Claim
-countsFine p n events = within maxTasks p & within maxRecords n & upTo maxEvents events
+countsFine p n count = within maxTasks p & within maxRecords n & upTo maxEvents count
 
 abbrev pub distanceFine : ℕ → ℕ → ℕ → ℕ → Claim
-distanceFine back n events end = holds (eqb back (partsSize n events)) & upTo end back
+distanceFine back n count end = holds (eqb back (partsSize n count)) & upTo end back
 
 -- in the order of the refusals
 abbrev pub sheetRules : List ℕ → Layout → List Rule
 sheetRules s at =
     unless SheetSize (sizeFine (length s))
     ∷ unless SheetTag (tagFine (trailer s))
-    ∷ unless Counts (countsFine (at .p) (at .n) (at .events))
-    ∷ unless Distance (distanceFine (distance (trailer s)) (at .n) (at .events) (length s - trailerSize))
-    ∷ unless EventKind (holds (eventsFine (eventsPart s at) (at .events)))
+    ∷ unless Counts (countsFine (at .p) (at .n) (at .count))
+    ∷ unless Distance (distanceFine (distance (trailer s)) (at .n) (at .count) (length s - trailerSize))
+    ∷ unless EventKind (holds (eventsFine (eventsPart s at) (at .count)))
     ∷ []
 
 abbrev pub readAs : Check → Layout → Sheet

@@ -25,7 +25,7 @@ const VALUES: usize = Machine::RECORDS * Machine::FIELDS;
 pub struct Layout {
     pub p: u8,
     pub n: u8,
-    pub events: u16,
+    pub count: u16,
     pub from: usize,
 }
 
@@ -65,21 +65,21 @@ pub fn layout_of(s: &[u8]) -> Sheet
     }
     let at = trailer::layout_by(t, size);
     let n = at.n;
-    let events = at.events;
-    if !trailer::counts_fine(at.p, n, events) {
+    let count = at.count;
+    if !trailer::counts_fine(at.p, n, count) {
         return Sheet::Refused {
             why: Refusal::Counts,
         };
     }
     let end = size - TRAILER;
-    if !trailer::distance_fine(trailer::distance(t), n, events, end) {
+    if !trailer::distance_fine(trailer::distance(t), n, count, end) {
         return Sheet::Refused {
             why: Refusal::Distance,
         };
     }
     let from = at.from;
     let first = from + RECORD * (n as usize);
-    if !events_fine(&s[first..end], events) {
+    if !events_fine(&s[first..end], count) {
         return Sheet::Refused {
             why: Refusal::EventKind,
         };

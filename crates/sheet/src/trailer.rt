@@ -16,9 +16,7 @@ pub(crate) const TRAILER: usize = 8;
 
 pub(crate) const RECORD: usize = 2 * Machine::FIELDS;
 
-const SHEET: usize = 65_000;
-
-const EVENTS: usize = 5_000;
+const MOST_BYTES: usize = 65_000;
 
 const FIRST_TAG: u8 = 0x52;
 
@@ -35,7 +33,7 @@ fn up_to(most: usize, k: usize) -> bool
 pub(crate) fn size_fine(size: usize) -> bool
     ensures { λ o. ⌜ o ≡ test 0 (spec.sizeFine size) ⌝ }
 {
-    TRAILER <= size && up_to(SHEET, size)
+    TRAILER <= size && up_to(MOST_BYTES, size)
 }
 
 // The last eight bytes.
@@ -62,26 +60,26 @@ pub(crate) fn tag_fine(t: Trailer) -> bool
     t[0] == FIRST_TAG && t[1] == SECOND_TAG
 }
 
-pub(crate) fn counts_fine(p: u8, n: u8, events: u16) -> bool
-    ensures { λ o. ⌜ o ≡ test 0 (spec.countsFine p n events) ⌝ }
+pub(crate) fn counts_fine(p: u8, n: u8, count: u16) -> bool
+    ensures { λ o. ⌜ o ≡ test 0 (spec.countsFine p n count) ⌝ }
 {
     lists::within(Machine::TASKS, p)
-        && (lists::within(Machine::RECORDS, n) && up_to(EVENTS, events as usize))
+        && (lists::within(Machine::RECORDS, n) && up_to(Machine::EVENTS, count as usize))
 }
 
 // The bytes between the heading and the trailer.
-pub(crate) fn parts_size(n: u8, events: u16) -> usize
-    ensures { λ o. ⌜ (o ≡ partsSize n events) × (o ≤ 788460) ⌝ }
+pub(crate) fn parts_size(n: u8, count: u16) -> usize
+    ensures { λ o. ⌜ (o ≡ partsSize n count) × (o ≤ 788460) ⌝ }
 {
-    RECORD * (n as usize) + EVENT * (events as usize)
+    RECORD * (n as usize) + EVENT * (count as usize)
 }
 
 // The distance back from the trailer, which starts at `end`.
-pub(crate) fn distance_fine(distance: u16, n: u8, events: u16, end: usize) -> bool
-    ensures { λ o. ⌜ o ≡ test 0 (spec.distanceFine distance n events end) ⌝ }
+pub(crate) fn distance_fine(distance: u16, n: u8, count: u16, end: usize) -> bool
+    ensures { λ o. ⌜ o ≡ test 0 (spec.distanceFine distance n count end) ⌝ }
 {
     let d = distance as usize;
-    d == parts_size(n, events) && up_to(end, d)
+    d == parts_size(n, count) && up_to(end, d)
 }
 
 pub(crate) fn distance(t: Trailer) -> u16
@@ -105,7 +103,7 @@ pub(crate) fn layout_by(t: Trailer, size: usize) -> Layout
     Layout {
         p: t[2],
         n: t[3],
-        events: pair(t[4], t[5]),
+        count: pair(t[4], t[5]),
         from: minus(end, distance(t) as usize),
     }
 }

@@ -31,6 +31,9 @@ maxList = 4
 abbrev pub maxFields : ℕ
 maxFields = 4
 
+abbrev pub maxEvents : ℕ
+maxEvents = 5000
+
 -- a where b holds, else the other
 abbrev pub pick : {A : Type 0} → Bool → A → A → A
 pick true a b = a

@@ -252,5 +252,8 @@ impl Machine {
 
     pub const FIELDS: usize = 4;
 
+    // the most events that a sheet has
+    pub const EVENTS: usize = 5000;
+
     pub const LINKS: usize = Machine::TASKS * Machine::RECORDS;
 }

@@ -122,7 +122,7 @@ mul-first : tie.Need-mul-first
 mul-first c = search needs
 
 -- the three bounds of the events' part, by these two facts
-fills : (c : tie.Else4) → let at = c .before .before .before .before .before .layout-by .result in at .from + 8 * at .n + 12 * at .events ≡ length (s4 (c .before)) - 8
+fills : (c : tie.Else4) → let at = c .before .before .before .before .before .layout-by .result in at .from + 8 * at .n + 12 * at .count ≡ length (s4 (c .before)) - 8
 fills c =
     let k = c .before .before .before .before in
     filled-is (s4 (c .before)) _ (k .before .before .before .before .trailer .ensures) _ (k .before .layout-by .ensures) (back-kept c)
