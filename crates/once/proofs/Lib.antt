@@ -4,3 +4,4 @@ pub mod Inner
 pub mod Tally
 pub mod Sheets
 pub mod Walked
+pub mod Running
