@@ -28,8 +28,6 @@ use Rattle.tally.proofs.operation_of.Kinds as tally-operation-of-kinds
 use Rattle.tally.proofs.operation_of.Reads as tally-operation-of-reads
 use Rattle.tally.proofs.none.Kinds as tally-none-kinds
 use Rattle.tally.proofs.none.Reads as tally-none-reads
-use Rattle.tally.proofs.counted.Kinds as tally-counted-kinds
-use Rattle.tally.proofs.counted.Reads as tally-counted-reads
 use Rattle.tally.proofs.counted_by.Kinds as tally-counted-by-kinds
 use Rattle.tally.proofs.counted_by.Reads as tally-counted-by-reads
 use Rattle.once.proofs.Once.{Once}
@@ -39,9 +37,6 @@ tally-operation-of κs a o p s t e f = e ∙ sym f
 
 pub tally-none : Once 0 tally-none-kinds.ps tally-none-kinds.r tally-none-reads.Post
 tally-none κs a o p s t e f = e ∙ sym f
-
-pub tally-counted : Once 0 tally-counted-kinds.ps tally-counted-kinds.r tally-counted-reads.Post
-tally-counted κs a o p s t e f = e ∙ sym f
 
 pub tally-counted-by : Once 0 tally-counted-by-kinds.ps tally-counted-by-kinds.r tally-counted-by-reads.Post
 tally-counted-by κs a o p s t e f = e ∙ sym f

@@ -47,7 +47,7 @@ fn table_of(s: &[u8], at: Layout) -> Machine
     ensures { λ o. ⌜ o ≡ tableOf (now (s .entry)) at ⌝ }
 {
     let from = at.from;
-    let end = from + 8 * at.n as usize;
+    let end = from + sheet::RECORD * at.n as usize;
     let values = sheet::values(&s[from..end]);
     let given = Machine::FIELDS * at.n as usize;
     let fresh = Machine::fresh(at.p, at.n, &values[..given]);
@@ -60,8 +60,8 @@ fn put_run(s: &[u8], at: Layout, out: &mut [u8]) -> usize
     ensures { λ r. ⌜ Put (now (out .entry)) 0 (runOf (now (s .entry)) at) (now (out .exit)) r × (length (runOf (now (s .entry)) at) ≤ 42 * at .count + 38 * at .n + 20) ⌝ }
 {
     let first = table_of(s, at);
-    let from = at.from + 8 * at.n as usize;
-    let end = from + 12 * at.count as usize;
+    let from = at.from + sheet::RECORD * at.n as usize;
+    let end = from + sheet::EVENT * at.count as usize;
     let played = play::play(&s[from..end], at.count, first, out);
     let m = played.m;
     let tally = played.tally;

@@ -49,6 +49,7 @@ pair s i = byte s i + 256 * byte s (i + 1)
 abbrev pub listOf : List ℕ → List ℕ
 listOf e = byte e 3 ∷ byte e 4 ∷ byte e 5 ∷ byte e 6 ∷ []
 
+-- a kind that is not 1 to 5 counts as a STEP here, and is refused below
 unfoldable pub callOf : List ℕ → Call
 callOf e =
     let kind = byte e 0 in

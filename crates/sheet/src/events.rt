@@ -6,12 +6,11 @@ ghost use lib.Dec.{ltb};
 ghost use Rattle.table.specs.Table.{pick, tabulate};
 ghost use Rattle.sheet.specs.Layout.{byte, callOf, eventFine, eventsFine, eventBytes, eventAt};
 ghost use Rattle.sheet.specs.Event.{askScx, unlisted, twelveAt, pastList, pastField, unusedSum};
+use crate::EVENT;
 use table::Ask;
 use table::Call;
 
 // The bytes of an event.
-pub(crate) const EVENT: usize = 12;
-
 type Event = [u8; EVENT];
 
 // The byte at j, 0 past the end.

@@ -11,12 +11,16 @@ use events::pair;
 use table::Call;
 use table::Machine;
 use table::Refusal;
-use trailer::RECORD;
 use trailer::TRAILER;
 
 mod events;
 mod put;
 mod trailer;
+
+// The bytes of a record's initial values, and of an event.
+pub const RECORD: usize = 2 * Machine::FIELDS;
+
+pub const EVENT: usize = 12;
 
 // As many values as the largest table has.
 const VALUES: usize = Machine::RECORDS * Machine::FIELDS;
@@ -107,7 +111,7 @@ pub fn at<'a>(events: &'a [u8], next: u16) -> Reader<'a>
     Reader { events, next }
 }
 
-// The event that is next.
+// The call of the event that is next. Past the end the bytes count as 0, which is a STEP of task 0; no accepted sheet has such an event.
 pub fn next_event<'a>(r: Reader<'a>) -> Call
     ensures { λ o. ⌜ o ≡ eventAt (now (r .entry .events)) (r .entry .next) ⌝ }
 {
@@ -143,7 +147,7 @@ fn given_fine(p: u8, n: u8, count: u16, values: usize, events: usize) -> bool
     ensures { λ o. ⌜ o ≡ test 0 (givenFine p n count values events) ⌝ }
 {
     trailer::counts_fine(p, n, count)
-        && (values == Machine::FIELDS * (n as usize) && events == events::EVENT * (count as usize))
+        && (values == Machine::FIELDS * (n as usize) && events == EVENT * (count as usize))
 }
 
 // A sheet at the front of the buffer, or the first of 22, 24 and 25 and the buffer as it was.

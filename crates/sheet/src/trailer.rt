@@ -6,15 +6,14 @@ ghost use Rattle.table.specs.Table.{tabulate};
 ghost use Rattle.rules.specs.Claim.{test};
 ghost use Rattle.sheet.specs.Layout.{byte, trailer, layoutBy, partsSize, trailerBytes};
 ghost use Rattle.sheet.specs.Layout as spec;
+use crate::EVENT;
 use crate::Layout;
-use crate::events::EVENT;
+use crate::RECORD;
 use crate::events::pair;
 use table::Machine;
 
-// The bytes of a trailer, of a record's initial values, and the most that a sheet has.
+// The bytes of a trailer, and the most that a sheet has.
 pub(crate) const TRAILER: usize = 8;
-
-pub(crate) const RECORD: usize = 2 * Machine::FIELDS;
 
 const MOST_BYTES: usize = 65_000;
 

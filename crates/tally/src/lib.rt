@@ -129,7 +129,7 @@ fn llx_counted(t: Tally, answer: Answer) -> Tally
 }
 
 // The tally after one answer more; a VLX's yes or no counts nowhere.
-pub fn counted(t: Tally, told: Told) -> Tally
+fn counted(t: Tally, told: Told) -> Tally
     ensures { λ o. ⌜ o ≡ countedOf t told ⌝ }
 {
     let operation = told.operation;

@@ -52,7 +52,7 @@ fn put_word(out: &mut [u8], at: usize, x: u16, b: u8) -> usize
     put_byte(out, p, b)
 }
 
-// What comes after number i of n, of which there are fewer than can be counted.
+// What comes after number i of n: a space, or the end of the line.
 fn ended(n: usize, i: usize) -> u8
     ensures { λ r. ⌜ r ≡ ended n i ⌝ }
 {
