@@ -5,17 +5,12 @@ use table::Answer;
 use table::Cells;
 use table::Machine;
 use table::Out;
+use tally::Tally;
+use tally::Told;
 
 const TASK: u8 = 0;
 
 const RECORD: u8 = 0;
-
-// How many SCX answered yes, how many no, and how many LLX Fail. There is no VLX here, so every yes and no is of an SCX.
-struct Tally {
-    yes: u16,
-    no: u16,
-    fail: u16,
-}
 
 // The machine after some events, how many they were, and the tally of their answers.
 struct Run {
@@ -80,7 +75,7 @@ fn write_record(m: Machine) {
 
 fn write_tally(tally: Tally) {
     io::write_all(STDOUT_FILENO, b"T");
-    write_number(tally.yes);
+    write_number(tally.made);
     write_number(tally.no);
     write_number(tally.fail);
     end_line();
@@ -91,17 +86,6 @@ fn one_more(count: u16) -> u16 {
     std::num::wrapping_add_u16(count, 1)
 }
 
-fn counted(tally: Tally, answer: Answer) -> Tally {
-    let mut sum = tally;
-    match answer {
-        Answer::Yes => sum.yes = one_more(tally.yes),
-        Answer::No => sum.no = one_more(tally.no),
-        Answer::Fail => sum.fail = one_more(tally.fail),
-        _ => {}
-    }
-    sum
-}
-
 // The run with one more event, of which out is what the call gave.
 fn after_event(run: Run, out: Out) -> Run {
     let m = out.m;
@@ -110,7 +94,11 @@ fn after_event(run: Run, out: Out) -> Run {
     let events = one_more(run.events);
     write_event(events, answer, cells);
     compare_link(m, answer, cells);
-    let tally = counted(run.tally, answer);
+    let before = run.m;
+    let task = before.tasks[TASK as usize];
+    let place = task.place;
+    let operation = tally::operation_of(place);
+    let tally = tally::counted_by(run.tally, Told { operation, answer });
     Run { m, events, tally }
 }
 
@@ -125,11 +113,7 @@ fn steps(run: Run, count: u8) -> Run {
 fn main() {
     let fresh = Machine::fresh(1, 1, &[5, 0, 0, 0]);
     let m = fresh.m;
-    let tally = Tally {
-        yes: 0,
-        no: 0,
-        fail: 0,
-    };
+    let tally = tally::none();
     let mut run = Run {
         m,
         events: 0,
