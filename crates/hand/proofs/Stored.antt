@@ -5,12 +5,11 @@ use mathlib.Core.Path.{_≡_, refl}
 use mathlib.Core.List.{List, [], _∷_}
 use lib.ListN.{getD, set, List·getD-map}
 use Rattle.rules.specs.Words.{Link, Machine, Access, Call, Out}
-use Rattle.table.specs.Table.{noLink, recordAt, changeAt, taskAt, slot, linkAt}
+use Rattle.table.specs.Table.{noLink, changeAt, taskAt, slot}
 use Rattle.rules.specs.Access.{accessOf, recordOf}
 use Rattle.rules.specs.Step.{dropped, dropFirst}
-use Rattle.hand.specs.declared.Hand.{Hand}
 use Rattle.hand.specs.declared.Turned.{Turned}
-use Rattle.hand.specs.Hand.{clip, linksOf, numberOf, turnOf, putTurn, turnWith, turnIn}
+use Rattle.hand.specs.Hand.{clip, linksOf, numberOf, turnOf, handBy, putTurn, turnWith, turnIn}
 
 -- THE LINKS THAT A CALL DROPS, one by one
 pub lost : Machine → ℕ → List ℕ → ℕ → Machine
@@ -73,21 +72,6 @@ pub near-is : (ls : List Link) (t : ℕ) (l : List ℕ) (q0 q1 q2 q3 : ℕ) → 
     → getD ls (slot t (q0 % 32)) noLink ∷ getD ls (slot t (q1 % 32)) noLink ∷ getD ls (slot t (q2 % 32)) noLink ∷ getD ls (slot t (q3 % 32)) noLink ∷ []
     ≡ linksOf ls t l
 near-is ls t l q0 q1 q2 q3 e0 e1 e2 e3 = rw (e0, e1, e2, e3) refl
-
--- what a call has in hand, with these links
-abbrev pub handBy : Machine → ℕ → ℕ → Access → ℕ → List Link → Hand
-handBy m t c a r near =
-    record {
-      p = m .p;
-      n = m .n;
-      used = m .used;
-      task = taskAt m t;
-      access = a;
-      change = changeAt m c;
-      rec = recordAt m r;
-      link = linkAt m t r;
-      near = near;
-    }
 
 pub turned : (m : Machine) (e : Call) (c : ℕ) (a : Access) (r : ℕ) (near : List Link) (d : Turned) (after : Machine)
     → c ≡ numberOf (e .ask) (m .used) (taskAt m (e .task % 8) .place)

@@ -100,9 +100,9 @@ linksOf ls t l =
     ∷ getD ls (slot t (getD l 3 0 % 32)) noLink
     ∷ []
 
--- what a call of task t has in hand: change c, access a, record r
-abbrev pub handAt : Machine → ℕ → List ℕ → ℕ → Access → ℕ → Hand
-handAt m t l c a r =
+-- what a call of task t has in hand: change c, access a, record r, and its links to the records of its list
+abbrev pub handBy : Machine → ℕ → ℕ → Access → ℕ → List Link → Hand
+handBy m t c a r near =
     record {
       p = m .p;
       n = m .n;
@@ -112,8 +112,11 @@ handAt m t l c a r =
       change = changeAt m c;
       rec = recordAt m r;
       link = linkAt m t r;
-      near = linksOf (m .links) t l;
+      near = near;
     }
+
+abbrev pub handAt : Machine → ℕ → List ℕ → ℕ → Access → ℕ → Hand
+handAt m t l c a r = handBy m t c a r (linksOf (m .links) t l)
 
 -- what it leaves, put in place
 unfoldable pub putTurn : Machine → ℕ → ℕ → ℕ → Turned → Out
