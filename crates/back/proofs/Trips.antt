@@ -11,11 +11,12 @@ use Rattle.table.proofs.Tabulate.{length-tabulate, getD-tabulate}
 use Rattle.rules.proofs.Exact.{told, passes}
 use Rattle.sheet.specs.declared.Layout.{Layout}
 use Rattle.sheet.specs.declared.Sheet.the-variants.{Read}
+use Rattle.sheet.specs.declared.Written.the-variants.{Sheet as WrittenSheet}
 use Rattle.sheet.specs.Layout.{byte, pair, lowFirst, trailer, distance, layoutOf, valuesPart, eventsPart, sizeFine, tagFine, countsFine, distanceFine, givenFine, partsSize, sheetSize, sheetOf, numbers, Parts, partsOf, valueBytes, trailerBytes, sheetBytes, bytesOf}
 use Rattle.sheet.proofs.Stored.{length-value-bytes}
 use Rattle.sheet.proofs.Writing.{Sized, room, sheet-length}
 use Rattle.sheet.proofs.Laws.{Kept, read-kept, kept-read, Inside, read-inside, Accepts, written-accepts, accepts-written, accepts-buffer}
-use Rattle.back.specs.Back.{AllBelow, countOf, WrittenThenRead, ReadThenWritten, Writing, Reading}
+use Rattle.back.specs.Back.{AllBelow, writes, leaves, over, WrittenThenRead, ReadThenWritten, Writing, Reading}
 use Rattle.back.proofs.Values.{values-back, bytes-back, low-first}
 use Rattle.back.proofs.Heading.{heading}
 
@@ -24,51 +25,62 @@ two-bytes : (v : ℕ) → v < 65536 → v % 256 + 256 * (v / 256 % 256) ≡ v
 two-bytes v l = omega arith
 
 -- WRITTEN, THEN READ
-module _ (x : Parts) {space : ℕ} (below : AllBelow 65536 (x .values)) (ok : Accepts (x .p) (x .n) (countOf x) (x .values) (x .events) space) where
-  sized : Sized (x .p) (x .n) (countOf x) (length (x .values)) (length (x .events))
-  sized = room (x .p) (x .n) (countOf x) (x .values) (x .events) (ok .given-kept)
+module _ (x : Parts) (count : ℕ) {space : ℕ} (below : AllBelow 65536 (x .values)) (ok : Accepts (x .p) (x .n) count (x .values) (x .events) space) where
+  sized : Sized (x .p) (x .n) count (length (x .values)) (length (x .events))
+  sized = room (x .p) (x .n) count (x .values) (x .events) (ok .given-kept)
 
   abbrev front : List ℕ
   front = valueBytes (x .values)
 
   abbrev last : List ℕ
-  last = trailerBytes (x .p) (x .n) (countOf x)
+  last = trailerBytes (x .p) (x .n) count
 
   abbrev at : Layout
-  at = record { p = x .p; n = x .n; count = countOf x; from = 0 }
+  at = record { p = x .p; n = x .n; count = count; from = 0 }
+
+  -- 12E event bytes are accepted alone, so that they tell the count
+  bytes-are : bytesOf x ≡ sheetBytes (x .p) (x .n) count (x .values) (x .events)
+  unfolding bytesOf
+  bytes-are =
+      let e : length (x .events) / 12 ≡ count = omega (arith, sized .events-are) in
+      ap (λ (k : ℕ). sheetBytes (x .p) (x .n) k (x .values) (x .events)) e
+
+  three-are : bytesOf x ≡ front ++ x .events ++ last
+  unfolding sheetBytes
+  three-are = bytes-are
 
   front-size : length front ≡ 8 * x .n
   front-size = omega (arith, length-value-bytes (x .values), sized .values-are)
 
-  whole-size : length (bytesOf x) ≡ sheetSize (x .n) (countOf x)
-  unfolding bytesOf
-  whole-size = sheet-length (x .p) (x .n) (countOf x) (x .values) (x .events) [] (ok .given-kept)
+  whole-size : length (bytesOf x) ≡ sheetSize (x .n) count
+  whole-size = rw bytes-are (sheet-length (x .p) (x .n) count (x .values) (x .events) [] (ok .given-kept))
 
   trailer-is : trailer (bytesOf x) ≡ last
-  unfolding bytesOf sheetBytes
-  trailer-is = drop-at (front ++ x .events) last (length (bytesOf x) - 8) (omega (arith, whole-size, length-append front (x .events), front-size, sized .events-are))
+  trailer-is =
+      let k : length (front ++ x .events) ≡ length (bytesOf x) - 8 = omega (arith, whole-size, length-append front (x .events), front-size, sized .events-are) in
+      ap (λ (l : List ℕ). drop (length (bytesOf x) - 8) l) three-are ∙ drop-at (front ++ x .events) last (length (bytesOf x) - 8) k
 
-  count-back : pair last 4 ≡ countOf x
-  count-back = two-bytes (countOf x) (omega (arith, sized .most))
+  count-back : pair last 4 ≡ count
+  count-back = two-bytes count (omega (arith, sized .most))
 
-  distance-back : distance last ≡ partsSize (x .n) (countOf x)
-  distance-back = two-bytes (partsSize (x .n) (countOf x)) (omega (arith, sized .most, sized .records))
+  distance-back : distance last ≡ partsSize (x .n) count
+  distance-back = two-bytes (partsSize (x .n) count) (omega (arith, sized .most, sized .records))
 
   layout-is : at ≡ layoutOf (bytesOf x)
   unfolding layoutOf
   layout-is =
-      let z : 0 ≡ length (bytesOf x) - 8 - partsSize (x .n) (countOf x) = omega (arith, whole-size) in
+      let z : 0 ≡ length (bytesOf x) - 8 - partsSize (x .n) count = omega (arith, whole-size) in
       rw (trailer-is, count-back, distance-back, ← z) refl
 
   values-part : valuesPart (bytesOf x) at ≡ front
-  unfolding valuesPart bytesOf sheetBytes
-  values-part = rw (append-assoc front (x .events) last) (take-at front (x .events ++ last) (8 * x .n) front-size)
+  unfolding valuesPart
+  values-part = rw (three-are, append-assoc front (x .events) last) (take-at front (x .events ++ last) (8 * x .n) front-size)
 
   events-part : eventsPart (bytesOf x) at ≡ x .events
-  unfolding eventsPart bytesOf sheetBytes
+  unfolding eventsPart
   events-part =
-      rw (append-assoc front (x .events) last, drop-at front (x .events ++ last) (0 + 8 * x .n) (omega (arith, front-size)))
-      (take-at (x .events) last (12 * countOf x) (sized .events-are))
+      rw (three-are, append-assoc front (x .events) last, drop-at front (x .events ++ last) (0 + 8 * x .n) (omega (arith, front-size)))
+      (take-at (x .events) last (12 * count) (sized .events-are))
 
   kept : Kept (bytesOf x) at
   kept =
@@ -76,8 +88,8 @@ module _ (x : Parts) {space : ℕ} (below : AllBelow 65536 (x .values)) (ok : Ac
         layout = layout-is;
         size-kept = passes 0 (sizeFine (length (bytesOf x))) (omega (arith, whole-size), omega (arith, whole-size, sized .most, sized .records));
         tag-kept = rw trailer-is (passes 0 (tagFine last) (refl, refl));
-        counts-kept = passes 0 (countsFine (x .p) (x .n) (countOf x)) ((omega (arith, sized .tasks), omega (arith, sized .tasks)), ((omega (arith, sized .records), omega (arith, sized .records)), omega (arith, sized .most)));
-        back-kept = rw (trailer-is, distance-back) (passes 0 (distanceFine (partsSize (x .n) (countOf x)) (x .n) (countOf x) (length (bytesOf x) - 8)) (eq-eqb (partsSize (x .n) (countOf x)) (partsSize (x .n) (countOf x)) refl, omega (arith, whole-size)));
+        counts-kept = passes 0 (countsFine (x .p) (x .n) count) ((omega (arith, sized .tasks), omega (arith, sized .tasks)), ((omega (arith, sized .records), omega (arith, sized .records)), omega (arith, sized .most)));
+        back-kept = rw (trailer-is, distance-back) (passes 0 (distanceFine (partsSize (x .n) count) (x .n) count (length (bytesOf x) - 8)) (eq-eqb (partsSize (x .n) count) (partsSize (x .n) count) refl, omega (arith, whole-size)));
         events-kept = rw events-part (ok .events-kept);
       }
 
@@ -87,15 +99,22 @@ module _ (x : Parts) {space : ℕ} (below : AllBelow 65536 (x .values)) (ok : Ac
       let v : numbers (4 * x .n) (valuesPart (bytesOf x) at) ≡ x .values = rw (values-part, ← sized .values-are) (values-back (x .values) below) in
       rw (v, events-part) refl
 
-  pub written-read : WrittenThenRead x
-  written-read =
+  buffer-is : (old : List ℕ) → length old ≡ space → leaves x count old ≡ over (bytesOf x) old
+  buffer-is old l = rw bytes-are (accepts-buffer old (rw l ok))
+
+  pub written-read : {size : ℕ} → writes x count space ≡ WrittenSheet size → WrittenThenRead x count space size
+  written-read {size} e =
+      let f = accepts-written ok in
+      let size-is : size ≡ sheetSize (x .n) count = cc in
       record {
+        answer = size-is ∙ sym whole-size;
+        buffer = buffer-is;
         headed = λ h l. let r = heading h (bytesOf x) at (kept-read kept) l in record { at = r .at; accepted = r .accepted; begins = r .begins ∙ omega arith; parts = r .parts ∙ parts-back };
         fits = omega (arith, whole-size, sized .most, sized .records);
       }
 
 pub writing : Writing
-writing x space size below e = written-read x below (written-accepts e)
+writing p n count values events space size below e = written-read (record { p = p; n = n; values = values; events = events }) count below (written-accepts e) e
 
 -- READ, THEN WRITTEN
 
@@ -219,13 +238,13 @@ module _ (s : List ℕ) (at : Layout) (below : AllBelow 256 s) (e : sheetOf s �
         fits = omega (arith, rest-size);
       }
 
-  pub read-written : ReadThenWritten s at
+  pub read-written : ReadThenWritten s at (partsOf s at)
   unfolding partsOf
   read-written =
       record {
         bytes = written-again;
-        answer = λ space l. rw (count-is, rest-size) (accepts-written (accepts space l));
-        buffer = λ old l. rw count-is (accepts-buffer old (accepts (length old) l) ∙ ap (λ (b : List ℕ). b ++ drop (length b) old) sheet-again);
+        answer = λ space l. rw rest-size (accepts-written (accepts space l));
+        buffer = λ old l. accepts-buffer old (accepts (length old) l) ∙ ap (λ (b : List ℕ). over b old) sheet-again;
       }
 
 pub reading : Reading
