@@ -68,9 +68,9 @@ module _ (h s : List ℕ) (at : Layout) (e : sheetOf s ≡ Read at) (l : length 
         events-kept = rw events-same (kept .events-kept);
       }
 
-  pub headed : ReadAs (h ++ s) (length h + at .from) (partsOf s at)
+  pub headed : ReadAs (h ++ s) (partsOf s at) (at .count) (length h + at .from)
   unfolding partsOf
-  headed = record { at = moved; accepted = kept-read still-kept; begins = refl; parts = rw (values-same, events-same) refl }
+  headed = record { accepted = kept-read still-kept; parts = rw (values-same, events-same) refl }
 
 pub heading : Heading
 heading = headed

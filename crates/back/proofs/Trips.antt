@@ -1,5 +1,6 @@
 -- THE TWO TRIPS: parts written and read again are the same; a sheet read and written again is the same from its initial values on.
 use Prim.Native.Nat.{ℕ, _+_, _-_, _*_, _/_, _%_, _<_, _≤_}
+use native.Mathlib.Nat.{add-zero}
 use native.Mathlib.Omega.{arith}
 use mathlib.Core.Path.{_≡_, refl, sym, ap, ap₂, _∙_}
 use mathlib.Core.List.{List, [], _∷_, _++_, append-assoc}
@@ -109,7 +110,7 @@ module _ (x : Parts) (count : ℕ) {space : ℕ} (below : AllBelow 65536 (x .val
       record {
         answer = size-is ∙ sym whole-size;
         buffer = buffer-is;
-        headed = λ h l. let r = heading h (bytesOf x) at (kept-read kept) l in record { at = r .at; accepted = r .accepted; begins = r .begins ∙ omega arith; parts = r .parts ∙ parts-back };
+        headed = λ h l. rw parts-back at (rw (add-zero (length h)) at (heading h (bytesOf x) at (kept-read kept) l));
         fits = omega (arith, whole-size, sized .most, sized .records);
       }
 

@@ -28,12 +28,13 @@ leaves x count old = bufferOf (x .p) (x .n) count (x .values) (x .events) old
 abbrev pub over : List ℕ → List ℕ → List ℕ
 over bytes old = bytes ++ drop (length bytes) old
 
--- bytes are read as parts that begin at a place
-pub record ReadAs (s : List ℕ) (from : ℕ) (x : Parts) : Type 0 where
-  pub at : Layout
-  pub accepted : sheetOf s ≡ Read at
-  pub begins : at .from ≡ from
-  pub parts : partsOf s at ≡ x
+-- bytes are read as parts that begin at a place, with an event count
+abbrev pub placed : Parts → ℕ → ℕ → Layout
+placed x count from = record { p = x .p; n = x .n; count = count; from = from }
+
+pub record ReadAs (s : List ℕ) (x : Parts) (count from : ℕ) : Type 0 where
+  pub accepted : sheetOf s ≡ Read (placed x count from)
+  pub parts : partsOf s (placed x count from) ≡ x
 
 -- the parts are what the reader hands out: the first 4N of what `values` gives for the bytes of the values, the bytes of the events, and
 -- as event i what `event` gives for these
@@ -49,7 +50,7 @@ pub record HandedOut (s : List ℕ) (at : Layout) (x : Parts) : Type 0 where
 pub record WrittenThenRead (x : Parts) (count room size : ℕ) : Type 0 where
   pub answer : size ≡ length (bytesOf x)
   pub buffer : (old : List ℕ) → length old ≡ room → leaves x count old ≡ over (bytesOf x) old
-  pub headed : (h : List ℕ) → length (h ++ bytesOf x) ≤ maxSheet → ReadAs (h ++ bytesOf x) (length h) x
+  pub headed : (h : List ℕ) → length (h ++ bytesOf x) ≤ maxSheet → ReadAs (h ++ bytesOf x) x count (length h)
   pub fits : length (bytesOf x) ≤ maxSheet
 
 -- the parts of a sheet, written into any buffer that has room, give its bytes from the initial values on, and the rest of the buffer
@@ -72,4 +73,5 @@ Reading = (s : List ℕ) (at : Layout) → AllBelow 256 s → sheetOf s ≡ Read
 
 abbrev pub Heading : Type 0
 Heading =
-    (h s : List ℕ) (at : Layout) → sheetOf s ≡ Read at → length (h ++ s) ≤ maxSheet → ReadAs (h ++ s) (length h + at .from) (partsOf s at)
+    (h s : List ℕ) (at : Layout) → sheetOf s ≡ Read at → length (h ++ s) ≤ maxSheet
+    → ReadAs (h ++ s) (partsOf s at) (at .count) (length h + at .from)
