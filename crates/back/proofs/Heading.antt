@@ -10,7 +10,6 @@ use Rattle.rules.proofs.Exact.{told, passes}
 use Rattle.sheet.specs.declared.Layout.{Layout}
 use Rattle.sheet.specs.declared.Sheet.the-variants.{Read}
 use Rattle.sheet.specs.Layout.{trailer, distance, layoutOf, valuesPart, eventsPart, sizeFine, distanceFine, sheetOf, partsOf}
-use Rattle.sheet.proofs.Refusals.{events}
 use Rattle.sheet.proofs.Laws.{Kept, read-kept, kept-read, Inside, read-inside}
 use Rattle.back.specs.Back.{ReadAs, Heading}
 
