@@ -1,16 +1,16 @@
 -- A number below its bound is not clipped; a list whose first n are below 32 is not, as far as n; and the links that a turn reads
 -- are then the task's own.
-use Prim.Native.Nat.{ℕ, zero, suc, _%_, _<_, _≤_}
+use Prim.Native.Nat.{ℕ, zero, suc, _%_, _<_}
 use native.Mathlib.Omega.{arith}
 use native.Mathlib.Nat.{mod-eq-of-lt}
-use mathlib.Core.Path.{_≡_, refl, sym, ap, _∙_}
+use mathlib.Core.Path.{_≡_, refl, ap, _∙_}
 use mathlib.Core.Bool.{Bool, true, false}
 use mathlib.Core.List.{List}
-use lib.ListN.{getD, set, List·getD-map}
+use lib.ListN.{getD, List·getD-map}
 use Rattle.table.specs.declared.Link.{Link}
 use Rattle.table.specs.Table.{pick, noLink, slot}
-use Rattle.rules.specs.Step.{dropped, dropFirst}
-use Rattle.rules.specs.Claim.{both, allBelow}
+use Rattle.rules.specs.Step.{dropFirst}
+use Rattle.rules.specs.Claim.{allBelow}
 use Rattle.hand.specs.Hand.{clip, linksOf}
 
 -- a choice whose first side matters only where the test passes

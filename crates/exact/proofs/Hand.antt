@@ -1,12 +1,11 @@
 -- A call on what it has in hand, put in place, is what the rules say: what a refused call or a start does not touch is stored back.
 use Prim.Native.Nat.{ℕ, _%_}
-use native.Mathlib.Omega.{arith}
-use mathlib.Core.Path.{_≡_, refl, sym, ap, _∙_}
+use mathlib.Core.Path.{_≡_, refl, ap, _∙_}
 use mathlib.Core.Bool.{true}
 use mathlib.Core.List.{List}
 use lib.ListN.{set}
 use lib.Seq.{set-getD}
-use Rattle.rules.specs.Words.{Machine, Place, Accepted, Access, Ask, AskLlx, AskScx, AskVlx, AskRead, AskStep, Call, Refusal, Out, Check, Passed, Failed}
+use Rattle.rules.specs.Words.{Machine, Place, Accepted, Access, Ask, AskLlx, AskScx, AskVlx, AskRead, AskStep, Call, Refusal, Check, Passed, Failed}
 use Rattle.table.specs.Table.{noCells, noRecord, noChange, noTask, noLink, recordAt, changeAt, taskAt, slot, linkAt}
 use Rattle.rules.specs.Access.{accessOf, recordOf}
 use Rattle.rules.specs.Step.{dropFirst, accessAt}
@@ -15,10 +14,9 @@ use Rattle.rules.specs.Refuse.{isIdle, check, rules}
 use Rattle.rules.specs.Next.{refused, next}
 use Rattle.refuse.specs.Linked.{linkedIn}
 use Rattle.begin.specs.declared.Begun.{Begun}
-use Rattle.begin.specs.Begun.{nextNumber, begunBy}
 use Rattle.act.specs.Act.{actOf}
 use Rattle.exact.specs.Turn.{refusalIn, putStart, begunIn, startIn, putStep, actIn, stepWith, changeNo, stepIn, acceptedIn}
-use Rattle.hand.specs.Hand.{clip, linksOf, numberOf, keptBy, begunOf, steppedOf, passedOf, checkedOf, turnOf, handAt, putTurn, turnWith, turnIn}
+use Rattle.hand.specs.Hand.{linksOf, numberOf, keptBy, begunOf, steppedOf, checkedOf, turnOf, handAt, putTurn, turnWith, turnIn}
 use Rattle.exact.proofs.Turn.{is-refused, is-accepted}
 
 module _ (m : Machine) (t c : ℕ) (a : Access) (r : ℕ) where

@@ -2,8 +2,8 @@
 use Prim.Native.Nat.{ℕ, zero, suc, _%_, _<_, _≤_}
 use native.Mathlib.Omega.{arith}
 use native.Mathlib.Nat.{mod-eq-of-lt, le-trans}
-use mathlib.Core.Path.{_≡_, refl, sym, ap, _∙_}
-use mathlib.Core.Bool.{Bool, true, false, not}
+use mathlib.Core.Path.{_≡_, refl, ap, _∙_}
+use mathlib.Core.Bool.{Bool, true, false}
 use mathlib.Core.List.{List}
 use lib.ListN.{getD}
 use lib.Dec.{ltb}
@@ -15,8 +15,8 @@ use Rattle.table.specs.declared.Ask.the-variants.{Llx as AskLlx, Scx as AskScx,
 use Rattle.table.specs.declared.Call.{Call}
 use Rattle.table.specs.declared.Check.{Check}
 use Rattle.table.specs.declared.Check.the-variants.{Passed, Failed}
-use Rattle.table.specs.declared.Refusal.the-variants.{NoSuchTask, TaskBusy, TaskIdle, ListLength, NoSuchRecord, RecordTwice, PlaceOrField, NoLink, NumbersUsed}
-use Rattle.table.specs.Table.{pick, taskAt, slot, linkAt, noLink}
+use Rattle.table.specs.declared.Refusal.the-variants.{TaskBusy, ListLength, NoSuchRecord, RecordTwice, PlaceOrField, NoLink, NumbersUsed}
+use Rattle.table.specs.Table.{pick, taskAt, linkAt, noLink}
 use Rattle.rules.specs.Claim.{allBelow, test}
 use Rattle.rules.specs.Shape.{within, exist, apart, InShape}
 use Rattle.rules.specs.Refuse.{inside, isIdle, check, rules, idleAt, linkedAt}

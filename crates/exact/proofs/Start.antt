@@ -1,9 +1,9 @@
 -- The start that a turn makes is the rules' own, behind the rules that it passed.
-use Prim.Native.Nat.{ℕ, zero, suc, _+_, _%_, _<_, _≤_}
+use Prim.Native.Nat.{ℕ, zero, suc, _+_, _<_, _≤_}
 use native.Mathlib.Omega.{arith}
 use native.Mathlib.Nat.{mod-eq-of-lt, le-trans}
-use mathlib.Core.Path.{_≡_, refl, sym, ap, ap₂, _∙_}
-use mathlib.Core.Bool.{Bool, true, false}
+use mathlib.Core.Path.{_≡_, refl, ap, _∙_}
+use mathlib.Core.Bool.{Bool, false}
 use mathlib.Core.List.{List, [], _∷_}
 use lib.ListN.{getD, set}
 use lib.Seq.{set-getD}
@@ -11,21 +11,19 @@ use lib.Dec.{ltb}
 use borrow.Author.Tests.{ltb-true, lt-ltb}
 use Rattle.table.specs.declared.Machine.{Machine}
 use Rattle.table.specs.declared.State.the-variants.{InProgress}
-use Rattle.table.specs.declared.Change.{Change}
 use Rattle.table.specs.declared.Link.{Link}
 use Rattle.table.specs.declared.Ask.{Ask}
 use Rattle.table.specs.declared.Ask.the-variants.{Llx as AskLlx, Scx as AskScx, Vlx as AskVlx, Read as AskRead, Step as AskStep}
 use Rattle.table.specs.declared.Call.{Call}
 use Rattle.table.specs.declared.Answer.the-variants.{Accepted}
 use Rattle.table.specs.declared.Out.{Out}
-use Rattle.table.specs.Table.{pick, tabulate, noCells, noChange, noLink, cellAt, changeAt, taskAt, slot, linkAt}
+use Rattle.table.specs.Table.{pick, tabulate, noCells, noChange, noLink, cellAt, changeAt, taskAt, linkAt}
 use Rattle.rules.specs.Step.{dropFirst}
 use Rattle.rules.specs.Claim.{Says}
 use Rattle.rules.specs.Shape.{InShape, exist}
 use Rattle.rules.specs.Start.{places, filled, start}
 use Rattle.rules.specs.Refuse.{rules, idleAt, linkedAt}
 use Rattle.rules.specs.Next.{started}
-use Rattle.begin.specs.declared.Begun.{Begun}
 use Rattle.begin.specs.Begun.{nextNumber, infoIn, infosIn, oldIn, filledBy, begunBy}
 use Rattle.hand.specs.Hand.{clip, linksOf}
 use Rattle.exact.specs.Turn.{putStart, begunIn, startIn}

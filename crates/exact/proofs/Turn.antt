@@ -12,9 +12,8 @@ use Rattle.table.specs.declared.Refusal.{Refusal}
 use Rattle.table.specs.declared.Refusal.the-variants.{OutOfShape}
 use Rattle.table.specs.declared.Check.{Check}
 use Rattle.table.specs.declared.Check.the-variants.{Passed, Failed}
-use Rattle.table.specs.declared.Out.{Out}
 use Rattle.rules.specs.Shape.{shape, inShape, InShape}
-use Rattle.rules.specs.Refuse.{check, rules, idleAt, linkedAt, rulesOf}
+use Rattle.rules.specs.Refuse.{rules, idleAt, linkedAt, rulesOf}
 use Rattle.rules.specs.Next.{refused, accepted, answered, next}
 use Rattle.rules.proofs.Exact.{told}
 use Rattle.exact.specs.Turn.{refusalIn, acceptedIn}

@@ -1,15 +1,15 @@
 -- From what each part of a call ensures to the call: laws over plain variables.
-use Prim.Native.Nat.{ℕ, _%_}
+use Prim.Native.Nat.{ℕ}
 use mathlib.Core.Path.{_≡_, refl, sym, ap, _∙_}
 use mathlib.Core.Bool.{Bool}
 use mathlib.Core.List.{List}
-use Rattle.rules.specs.Words.{Link, Ask, AskLlx, AskScx, AskVlx, AskRead, AskStep, Call, Refusal, Check, Passed, Failed}
+use Rattle.rules.specs.Words.{Ask, Call, Check}
 use Rattle.rules.specs.Refuse.{isIdle, check, rules}
 use Rattle.refuse.specs.Linked.{linkedIn}
 use Rattle.begin.specs.Begun.{begunBy}
 use Rattle.hand.specs.declared.Hand.{Hand}
 use Rattle.hand.specs.declared.Turned.{Turned}
-use Rattle.hand.specs.Hand.{keptBy, begunOf, passedOf, checkedOf, turnOf}
+use Rattle.hand.specs.Hand.{begunOf, passedOf, checkedOf, turnOf}
 
 -- what a start leaves, whatever is asked
 abbrev pub startOf : Hand → List ℕ → Ask → Turned

@@ -3,7 +3,7 @@
 use Prim.Native.Nat.{ℕ, _%_}
 use mathlib.Core.List.{List, [], _∷_, map}
 use lib.ListN.{getD, set}
-use Rattle.rules.specs.Words.{Record, Change, Place, Task, Link, Machine, Ask, AskLlx, AskScx, AskVlx, AskRead, AskStep, Call, Refusal, Accepted, Refused, Out, Access, Check, Passed, Failed}
+use Rattle.rules.specs.Words.{Place, Link, Machine, Ask, AskLlx, AskScx, AskVlx, AskRead, AskStep, Call, Refusal, Accepted, Refused, Out, Access, Check, Passed, Failed}
 use Rattle.table.specs.Table.{noCells, noLink, recordAt, changeAt, taskAt, slot, linkAt}
 use Rattle.rules.specs.Access.{changeOf, accessOf, recordOf}
 use Rattle.rules.specs.Step.{dropFirst}

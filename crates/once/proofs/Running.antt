@@ -2,10 +2,7 @@
 use Prim.Native.Nat.{ℕ}
 use mathlib.Core.Path.{_≡_, sym, _∙_}
 use mathlib.Core.List.{List}
-use contract.Lifetimes.{Lfts}
 use denote.Ref.{now}
-use denote.Triple.Clauses.{AtExit}
-use borrow.Fn.Kinds.{PK, RK, Dens, Out, resT, endedOf}
 use Rattle.text.specs.Put.{Put}
 use Rattle.play.specs.declared.Played.{Played}
 use Rattle.play.specs.Play.{Plays}
@@ -30,13 +27,7 @@ use Rattle.play.proofs.play.Kinds as play-play-kinds
 use Rattle.play.proofs.play.Reads as play-play-reads
 use Rattle.runner.proofs.run.Kinds as runner-run-kinds
 use Rattle.runner.proofs.run.Reads as runner-run-reads
-use Rattle.once.proofs.Once.{Once}
-
--- any two contents that the contract leaves in the lent buffer, found there by `held`, are equal
-abbrev pub OnceLent : (n : ℕ) (ps : List (PK n)) (r : RK n) → Out n ps r → ((κs : Lfts n) → AtExit (endedOf n ps r) κs → List ℕ) → Type 0
-OnceLent n ps r Post held =
-    (κs : Lfts n) (a : Dens κs ps) (o p : resT r κs .Denot) (s t : AtExit (endedOf n ps r) κs) → Post κs a o s → Post κs a p t
-    → held κs s ≡ held κs t
+use Rattle.once.proofs.Once.{Once, OnceLent}
 
 -- a text put into a buffer leaves one place after it, and one buffer
 put-once : {old new also text : List ℕ} {at r q : ℕ} → Put old at text new r → Put old at text also q → r ≡ q

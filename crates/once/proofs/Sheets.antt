@@ -1,9 +1,6 @@
 -- Run sheets: the reader, its door, and the writer, which also leaves one content of the lent buffer.
-use mathlib.Core.Path.{_≡_, sym, _∙_}
-use borrow.Fn.Kinds.{Dens, resT, endedOf}
-use contract.Lifetimes.{Lfts}
+use mathlib.Core.Path.{sym, _∙_}
 use denote.Ref.{now}
-use denote.Triple.Clauses.{AtExit}
 use Rattle.sheet.proofs.layout_of.Kinds as sheet-layout-of-kinds
 use Rattle.sheet.proofs.layout_of.Reads as sheet-layout-of-reads
 use Rattle.sheet.proofs.values.Kinds as sheet-values-kinds
@@ -12,7 +9,7 @@ use Rattle.sheet.proofs.event.Kinds as sheet-event-kinds
 use Rattle.sheet.proofs.event.Reads as sheet-event-reads
 use Rattle.sheet.proofs.write.Kinds as sheet-write-kinds
 use Rattle.sheet.proofs.write.Reads as sheet-write-reads
-use Rattle.once.proofs.Once.{Once}
+use Rattle.once.proofs.Once.{Once, OnceLent}
 
 pub sheet-layout-of : Once 1 sheet-layout-of-kinds.ps sheet-layout-of-kinds.r sheet-layout-of-reads.Post
 sheet-layout-of κs a o p s t e f = e ∙ sym f
@@ -28,7 +25,5 @@ pub sheet-write : Once 3 sheet-write-kinds.ps sheet-write-kinds.r sheet-write-re
 sheet-write κs a o p s t e f = e .0 ∙ sym (f .0)
 
 -- the buffer is the sixth parameter
-pub sheet-write-lent : (κs : Lfts 3) (a : Dens κs sheet-write-kinds.ps) (o p : resT sheet-write-kinds.r κs .Denot)
-    (s t : AtExit (endedOf 3 sheet-write-kinds.ps sheet-write-kinds.r) κs)
-    → sheet-write-reads.Post κs a o s → sheet-write-reads.Post κs a p t → now (s .1 .1 .1 .1 .1 .0) ≡ now (t .1 .1 .1 .1 .1 .0)
+pub sheet-write-lent : OnceLent 3 sheet-write-kinds.ps sheet-write-kinds.r sheet-write-reads.Post (λ κs s. now (s .1 .1 .1 .1 .1 .0))
 sheet-write-lent κs a o p s t e f = e .1 ∙ sym (f .1)

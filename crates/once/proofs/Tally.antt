@@ -30,7 +30,7 @@ use Rattle.tally.proofs.none.Kinds as tally-none-kinds
 use Rattle.tally.proofs.none.Reads as tally-none-reads
 use Rattle.tally.proofs.counted_by.Kinds as tally-counted-by-kinds
 use Rattle.tally.proofs.counted_by.Reads as tally-counted-by-reads
-use Rattle.once.proofs.Once.{Once}
+use Rattle.once.proofs.Once.{Once, OnceLent}
 
 pub tally-operation-of : Once 0 tally-operation-of-kinds.ps tally-operation-of-kinds.r tally-operation-of-reads.Post
 tally-operation-of κs a o p s t e f = e ∙ sym f
@@ -82,6 +82,5 @@ pub tally-count : Once 1 count-kinds count-result count-post
 tally-count κs a o p s t e f = refl
 
 -- and the lent tally has one content at exit
-pub tally-count-lent : (κs : Lfts 1) (a : Dens κs count-kinds) (o p : resT count-result κs .Denot) (s t : AtExit (endedOf 1 count-kinds count-result) κs)
-    → count-post κs a o s → count-post κs a p t → now (s .0) ≡ now (t .0)
+pub tally-count-lent : OnceLent 1 count-kinds count-result count-post (λ κs s. now (s .0))
 tally-count-lent κs a o p s t e f = e ∙ sym f

@@ -2,15 +2,11 @@
 use Prim.Native.Nat.{ℕ, _+_, _*_, _%_, _≤_, _<_}
 use native.Mathlib.Numerals.{add-one}
 use mathlib.Core.Path.{_≡_, refl, sym, ap, ap₂, subst, _∙_}
-use mathlib.Core.List.{List, [], _∷_}
-use lib.ListN.{getD, set, length, List·getD-map}
-use Rattle.rules.specs.Words.{Link, Machine, Access, Call, Answer, Cell, Out}
-use Rattle.table.specs.Table.{noLink, recordAt, changeAt, taskAt, slot, linkAt}
-use Rattle.rules.specs.Access.{accessOf, recordOf}
-use Rattle.rules.specs.Step.{dropped, dropFirst}
-use Rattle.hand.specs.declared.Hand.{Hand}
-use Rattle.hand.specs.declared.Turned.{Turned}
-use Rattle.hand.specs.Hand.{numberOf, turnOf, putTurn, turnWith, turnIn}
+use mathlib.Core.List.{List, []}
+use lib.ListN.{length}
+use Rattle.rules.specs.Words.{Machine, Call, Answer, Cell, Out}
+use Rattle.table.specs.Table.{taskAt}
+use Rattle.hand.specs.Hand.{turnIn}
 use Rattle.sheet.specs.Layout.{eventAt}
 use Rattle.tally.specs.declared.Tally.{Tally}
 use Rattle.tally.specs.declared.Operation.{Operation}
@@ -21,7 +17,6 @@ use Rattle.text.specs.Put.{Put}
 use Rattle.text.proofs.Laws.{Puts, first, again, done}
 use Rattle.text.proofs.Most.{most-none, most-again}
 use Rattle.lines.specs.Lines.{answerLine}
-use Rattle.play.specs.declared.Played.{Played}
 use Rattle.play.specs.Play.{turnsTo, turnAt, toldIn, lineIn, Plays}
 
 -- THE RUN SO FAR: what holds in the loop, before the first turn, after one more, at the end

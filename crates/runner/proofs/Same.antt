@@ -1,6 +1,6 @@
 -- THE LOOP'S MACHINE IS THE RUN: from a table in shape, calls in hand with clipped indices are the rules' own calls, event by event; so
 -- are their lines, and the tally of their answers.
-use Prim.Native.Nat.{ℕ, zero, suc, _+_, _%_, _≤_, _<_}
+use Prim.Native.Nat.{ℕ, zero, suc, _+_, _%_, _≤_}
 use native.Mathlib.Nat.{mod-eq-of-lt, le-trans}
 use native.Mathlib.Numerals.{add-one}
 use native.Mathlib.Omega.{arith}
@@ -8,10 +8,10 @@ use mathlib.Core.Path.{_≡_, refl, sym, ap, ap₂, _∙_, fun-ext}
 use mathlib.Core.Bool.{Bool, true, false}
 use mathlib.Core.List.{List}
 use lib.Dec.{ltb}
-use borrow.Author.Tests.{ltb-true, ltb-false, le-ltb}
-use Rattle.table.specs.Table.{pick, taskAt}
-use Rattle.rules.specs.Words.{Machine, Ask, AskLlx, AskScx, AskVlx, AskRead, AskStep, Call, Refusal, NoSuchTask, Answer, Refused, Out}
-use Rattle.rules.specs.Shape.{inShape, InShape}
+use borrow.Author.Tests.{ltb-true}
+use Rattle.table.specs.Table.{taskAt}
+use Rattle.rules.specs.Words.{Machine, Ask, AskLlx, AskScx, AskVlx, AskRead, AskStep, Refusal, NoSuchTask, Answer, Refused, Out}
+use Rattle.rules.specs.Shape.{inShape}
 use Rattle.rules.specs.Refuse.{rulesOf}
 use Rattle.rules.specs.Next.{refused, next}
 use Rattle.keeps.proofs.Lengths.{Sized, kept-sized}

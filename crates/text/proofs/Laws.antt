@@ -8,9 +8,8 @@ use mathlib.Core.Bool.{Bool, true, false}
 use mathlib.Core.List.{List, [], _∷_, _++_}
 use lib.Dec.{leb}
 use lib.ListN.{length, set, drop, length-append, length-set}
-use lib.Seq.{sets, sets-eq, set-out, length-sets}
+use lib.Seq.{sets, sets-eq, set-out}
 use borrow.Author.Tests.{leb-true, leb-false, le-leb, lt-leb}
-use Rattle.table.specs.Table.{pick}
 use Rattle.text.specs.Text.{joined}
 use Rattle.text.specs.Put.{past, Put}
 

@@ -1,6 +1,6 @@
 -- WRITING INTO A LENT BUFFER: a text stands from a place on, as far as it fits; the place after it; and the buffer's length stays.
 -- Writing one text and then another is writing both, whether they fit or not, so nobody who writes a line has to ask for room.
-use Prim.Native.Nat.{ℕ, zero, suc, _+_, _≤_, _<_}
+use Prim.Native.Nat.{ℕ, _+_}
 use mathlib.Core.Path.{_≡_}
 use mathlib.Core.List.{List}
 use lib.Dec.{leb}

@@ -1,7 +1,6 @@
 // Lines of numbers, written into a lent buffer. What does not fit is left out: nothing is written past the end.
 ghost use mathlib.Core.Path.{_≡_};
 ghost use mathlib.Core.List.{[], _∷_};
-ghost use lib.ListN.{length};
 ghost use Rattle.text.specs.Text.{ended, last, lead, digits, word, row, lettered};
 ghost use Rattle.text.specs.Put.{Put};
 

@@ -1,68 +1,50 @@
+-- `hand::number_of` meets its contract.
 use borrow.Author.Needs.{needs}
 use Rattle.hand.proofs.number_of.Statement.{statement}
 use Rattle.hand.proofs.number_of.Tie as tie
-use Rattle.hand.proofs.number_of.Reads as reads
-use Rattle.hand.proofs.number_of.Lts as lts
-use Rattle.access.proofs.change_of.Reads as change-of-reads
-use Rattle.begin.proofs.next_number.Reads as next-number-reads
 
--- src/lib.rt:57:28
 enum-told : tie.Need-enum-told
 enum-told c = search needs
 
--- src/lib.rt:57:28
 next-number-requires : tie.Need-next-number-requires
 next-number-requires c κs = search needs
 
--- src/lib.rt:58:28
 enum-told-2 : tie.Need-enum-told-2
 enum-told-2 c = search needs
 
--- src/lib.rt:58:28
 next-number-requires-2 : tie.Need-next-number-requires-2
 next-number-requires-2 c κs = search needs
 
--- src/lib.rt:59:28
 enum-told-3 : tie.Need-enum-told-3
 enum-told-3 c = search needs
 
--- src/lib.rt:59:28
 next-number-requires-3 : tie.Need-next-number-requires-3
 next-number-requires-3 c κs = search needs
 
--- src/lib.rt:60:29
 enum-told-4 : tie.Need-enum-told-4
 enum-told-4 c = search needs
 
--- src/lib.rt:60:29
 next-number-requires-4 : tie.Need-next-number-requires-4
 next-number-requires-4 c κs = search needs
 
--- src/lib.rt:61:22
 enum-told-5 : tie.Need-enum-told-5
 enum-told-5 c = search needs
 
--- src/lib.rt:61:22
 change-of-requires : tie.Need-change-of-requires
 change-of-requires c κs = search needs
 
--- src/lib.rt:53:1
 returns : tie.Need-returns
 returns c = simp (c .before .enum-told .given .1) (c .next-number .ensures)
 
--- src/lib.rt:53:1
 returns-2 : tie.Need-returns-2
 returns-2 c = simp (c .before .enum-told2 .given .1) (c .next-number2 .ensures)
 
--- src/lib.rt:53:1
 returns-3 : tie.Need-returns-3
 returns-3 c = simp (c .before .enum-told3 .given .1) (c .next-number3 .ensures)
 
--- src/lib.rt:53:1
 returns-4 : tie.Need-returns-4
 returns-4 c = simp (c .before .enum-told4 .given .1) (c .next-number4 .ensures)
 
--- src/lib.rt:53:1
 returns-5 : tie.Need-returns-5
 returns-5 c = simp (c .before .enum-told5 .given .1) (c .change-of .ensures)
 

@@ -1,70 +1,52 @@
+-- `hand::passed_of` meets its contract.
 use Rattle.hand.proofs.Glue.{as-asked}
 use mathlib.Core.Path.{refl}
 use borrow.Author.Needs.{needs}
 use Rattle.hand.proofs.passed_of.Statement.{statement}
 use Rattle.hand.proofs.passed_of.Tie as tie
-use Rattle.hand.proofs.passed_of.Reads as reads
-use Rattle.hand.proofs.passed_of.Lts as lts
-use Rattle.hand.proofs.started.Reads as started-reads
-use Rattle.hand.proofs.stepped.Reads as stepped-reads
 
--- src/lib.rt:157:28
 enum-told : tie.Need-enum-told
 enum-told c = search needs
 
--- src/lib.rt:157:28
 started-requires : tie.Need-started-requires
 started-requires c κs = search needs
 
--- src/lib.rt:158:28
 enum-told-2 : tie.Need-enum-told-2
 enum-told-2 c = search needs
 
--- src/lib.rt:158:28
 started-requires-2 : tie.Need-started-requires-2
 started-requires-2 c κs = search needs
 
--- src/lib.rt:159:28
 enum-told-3 : tie.Need-enum-told-3
 enum-told-3 c = search needs
 
--- src/lib.rt:159:28
 started-requires-3 : tie.Need-started-requires-3
 started-requires-3 c κs = search needs
 
--- src/lib.rt:160:29
 enum-told-4 : tie.Need-enum-told-4
 enum-told-4 c = search needs
 
--- src/lib.rt:160:29
 started-requires-4 : tie.Need-started-requires-4
 started-requires-4 c κs = search needs
 
--- src/lib.rt:161:22
 enum-told-5 : tie.Need-enum-told-5
 enum-told-5 c = search needs
 
--- src/lib.rt:161:22
 stepped-requires : tie.Need-stepped-requires
 stepped-requires c κs = search needs
 
--- src/lib.rt:152:1
 returns : tie.Need-returns
 returns c = as-asked _ _ _ _ _ (c .before .enum-told .given .1) (c .started .ensures) refl
 
--- src/lib.rt:152:1
 returns-2 : tie.Need-returns-2
 returns-2 c = as-asked _ _ _ _ _ (c .before .enum-told2 .given .1) (c .started2 .ensures) refl
 
--- src/lib.rt:152:1
 returns-3 : tie.Need-returns-3
 returns-3 c = as-asked _ _ _ _ _ (c .before .enum-told3 .given .1) (c .started3 .ensures) refl
 
--- src/lib.rt:152:1
 returns-4 : tie.Need-returns-4
 returns-4 c = as-asked _ _ _ _ _ (c .before .enum-told4 .given .1) (c .started4 .ensures) refl
 
--- src/lib.rt:152:1
 returns-5 : tie.Need-returns-5
 returns-5 c = simp (c .before .enum-told5 .given .1) (c .stepped .ensures)
 

@@ -1,33 +1,24 @@
+-- `lines::put_refusal` meets its contract.
 use Rattle.lines.specs.Lines.{refusalLine}
 use borrow.Author.Needs.{needs}
 use Rattle.lines.proofs.put_refusal.Statement.{statement}
 use Rattle.lines.proofs.put_refusal.Tie as tie
-use Rattle.lines.proofs.put_refusal.Reads as reads
-use Rattle.lines.proofs.put_refusal.Lts as lts
-use Rattle.answers.proofs.refusal_number.Reads as refusal-number-reads
-use Rattle.text.proofs.put_lettered.Reads as put-lettered-reads
 
--- src/lib.rt:89:15
 refusal-number-requires : tie.Need-refusal-number-requires
 refusal-number-requires c κs = search needs
 
--- src/lib.rt:89:15
 cast-t6 : tie.Need-cast-t6
 cast-t6 c = search needs
 
--- src/lib.rt:90:39
 slice-aggregate-put-lettered : tie.Need-slice-aggregate-put-lettered
 slice-aggregate-put-lettered c = search needs
 
--- src/lib.rt:90:5
 put-lettered-requires : tie.Need-put-lettered-requires
 put-lettered-requires c κs = search needs
 
--- src/lib.rt:86:1
 same-length : tie.Need-same-length
 same-length c = search needs
 
--- src/lib.rt:86:1
 returns : tie.Need-returns
 unfolding refusalLine
 returns c = simp (c .before .before .before .before .before .refusal-number .ensures) at (c .before .before .put-lettered .ensures)

@@ -1,24 +1,18 @@
+-- `lines::put_tally` meets its contract.
 use Rattle.lines.specs.Lines.{tallyLine}
 use borrow.Author.Needs.{needs}
 use Rattle.lines.proofs.put_tally.Statement.{statement}
 use Rattle.lines.proofs.put_tally.Tie as tie
-use Rattle.lines.proofs.put_tally.Reads as reads
-use Rattle.lines.proofs.put_tally.Lts as lts
-use Rattle.text.proofs.put_lettered.Reads as put-lettered-reads
 
--- src/lib.rt:82:39
 slice-aggregate-put-lettered : tie.Need-slice-aggregate-put-lettered
 slice-aggregate-put-lettered c = search needs
 
--- src/lib.rt:82:5
 put-lettered-requires : tie.Need-put-lettered-requires
 put-lettered-requires c κs = search needs
 
--- src/lib.rt:78:1
 same-length : tie.Need-same-length
 same-length c = search needs
 
--- src/lib.rt:78:1
 returns : tie.Need-returns
 unfolding tallyLine
 returns c = c .before .before .put-lettered .ensures

@@ -1,3 +1,4 @@
+-- `text::ended` meets its contract.
 use Prim.Native.Nat.{_+_}
 use native.Mathlib.Omega.{arith}
 use borrow.Author.Tests.{lt-ltb, le-ltb}
@@ -5,22 +6,16 @@ use borrow.Author.Tests.{lt-ltb, le-ltb}
 use borrow.Author.Needs.{needs}
 use Rattle.text.proofs.ended.Statement.{statement}
 use Rattle.text.proofs.ended.Tie as tie
-use Rattle.text.proofs.ended.Reads as reads
-use Rattle.text.proofs.ended.Lts as lts
 
--- src/lib.rt:60:12
 add-if2 : tie.Need-add-if2
 add-if2 c = search needs
 
--- src/lib.rt:56:1
 returns : tie.Need-returns
 returns c = simp (lt-ltb _ _ (c .if2 .taken))
 
--- src/lib.rt:56:1
 returns-2 : tie.Need-returns-2
 returns-2 c = simp (le-ltb _ _ (c .if2 .left))
 
--- src/lib.rt:56:1
 returns-3 : tie.Need-returns-3
 returns-3 c = simp (le-ltb (c .before .args .i + 1) (c .before .args .n) (omega arith))
 

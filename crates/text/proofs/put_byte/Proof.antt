@@ -1,28 +1,21 @@
+-- `text::put_byte` meets its contract.
 use Rattle.text.proofs.Laws.{one-in, one-out}
-use borrow.Author.Tests.{lt-ltb, le-ltb}
 use borrow.Author.Needs.{needs}
 use Rattle.text.proofs.put_byte.Statement.{statement}
 use Rattle.text.proofs.put_byte.Tie as tie
-use Rattle.text.proofs.put_byte.Reads as reads
-use Rattle.text.proofs.put_byte.Lts as lts
 
--- src/lib.rt:13:9
 slice-write-out : tie.Need-slice-write-out
 slice-write-out c = search needs
 
--- src/lib.rt:14:16
 add-result : tie.Need-add-result
 add-result c = search needs
 
--- src/lib.rt:14:9
 same-length : tie.Need-same-length
 same-length c = search needs
 
--- src/lib.rt:14:9
 returns : tie.Need-returns
 returns c = one-in _ _ _ (c .if1 .taken)
 
--- src/lib.rt:9:1
 returns-2 : tie.Need-returns-2
 returns-2 c = one-out _ _ _ (c .if1 .left)
 

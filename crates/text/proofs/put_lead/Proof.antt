@@ -1,3 +1,4 @@
+-- `text::put_lead` meets its contract.
 use borrow.Author.Tests.{eq-eqb, ne-eqb}
 use Rattle.text.specs.Text.{lead}
 use Rattle.text.proofs.Laws.{nothing}
@@ -5,24 +6,17 @@ use borrow.Author.Tests.{eq-eqb, ne-eqb}
 use borrow.Author.Needs.{needs}
 use Rattle.text.proofs.put_lead.Statement.{statement}
 use Rattle.text.proofs.put_lead.Tie as tie
-use Rattle.text.proofs.put_lead.Reads as reads
-use Rattle.text.proofs.put_lead.Lts as lts
-use Rattle.text.proofs.put_last.Reads as put-last-reads
 
--- src/lib.rt:31:9
 returns : tie.Need-returns
 unfolding lead
 returns c = simp (eq-eqb _ _ (c .if1 .taken)) nothing
 
--- src/lib.rt:33:5
 put-last-requires : tie.Need-put-last-requires
 put-last-requires c κs = search needs
 
--- src/lib.rt:27:1
 same-length : tie.Need-same-length
 same-length c = search needs
 
--- src/lib.rt:27:1
 returns-2 : tie.Need-returns-2
 unfolding lead
 returns-2 c = simp (ne-eqb _ _ (c .before .before .before .before .if1 .left)) (c .before .before .put-last .ensures)
