@@ -14,5 +14,4 @@ handing s at e =
       records = refl;
       values = sym (take-values (valuesPart s at) (4 * at .n) (omega (arith, read-inside e .records)));
       events = refl;
-      event = λ i. refl;
     }

@@ -1,6 +1,6 @@
 -- ROUND TRIPS, what is claimed of the reader and the writer together. "The parts read from an accepted sheet, written again, give its bytes
 -- from the initial values on"; parts written and read again are the same parts; "any heading bytes of the owner's" change nothing.
--- Each claim is about what the contracts of `layout_of`, `values`, `event` and `write` say: sheetOf, valuesIn, eventAt, writtenOf and
+-- Each claim is about what the contracts of `layout_of`, `values`, `event` and `write` say: sheetOf, valuesIn, eventAt of the event bytes, writtenOf and
 -- bufferOf. Bytes are below 256 and values below 65,536 by the types of the code; proofs/ has the claims proved.
 use Prim.Native.Nat.{ℕ, _+_, _*_, _<_, _≤_}
 use mathlib.Core.Path.{_≡_}
@@ -11,7 +11,7 @@ use Rattle.sheet.specs.declared.Layout.{Layout}
 use Rattle.sheet.specs.declared.Sheet.the-variants.{Read}
 use Rattle.sheet.specs.declared.Written.{Written}
 use Rattle.sheet.specs.declared.Written.the-variants.{Sheet as WrittenSheet}
-use Rattle.sheet.specs.Layout.{Parts, valuesPart, eventsPart, valuesIn, eventAt, sheetOf, partsOf, bytesOf, writtenOf, bufferOf, maxSheet}
+use Rattle.sheet.specs.Layout.{Parts, valuesPart, eventsPart, valuesIn, sheetOf, partsOf, bytesOf, writtenOf, bufferOf, maxSheet}
 
 -- each number of a list is below a bound: 256 for bytes, 65,536 for values
 abbrev pub AllBelow : ℕ → List ℕ → Type 0
@@ -36,14 +36,13 @@ pub record ReadAs (s : List ℕ) (x : Parts) (count from : ℕ) : Type 0 where
   pub accepted : sheetOf s ≡ Read (placed x count from)
   pub parts : partsOf s (placed x count from) ≡ x
 
--- the parts are what the reader hands out: the first 4N of what `values` gives for the bytes of the values, the bytes of the events, and
--- as event i what `event` gives for these
+-- the parts are what the reader hands out: the first 4N of what `values` gives for the bytes of the values, and the bytes of the events,
+-- of which `event` gives each
 pub record HandedOut (s : List ℕ) (at : Layout) (x : Parts) : Type 0 where
   pub tasks : x .p ≡ at .p
   pub records : x .n ≡ at .n
   pub values : x .values ≡ take (maxFields * at .n) (valuesIn (valuesPart s at))
   pub events : x .events ≡ eventsPart s at
-  pub event : (i : ℕ) → eventAt (x .events) i ≡ eventAt (eventsPart s at) i
 
 -- the writer put the bytes of the parts at the front of the buffer and kept the rest; the parts are read from these bytes, behind any
 -- heading that leaves room, and without one there always is

@@ -3,8 +3,6 @@ ghost use mathlib.Core.Path.{_≡_};
 ghost use Rattle.begin.specs.Begun.{begunBy};
 ghost use Rattle.act.specs.Act.{actOf};
 ghost use Rattle.hand.specs.Hand.{numberOf, keptBy, begunOf, steppedOf, passedOf, turnOf};
-use act::Stored;
-use begin::Begun;
 use begin::Links;
 use table::Access;
 use table::Answer;
@@ -83,9 +81,13 @@ fn kept_by(h: Hand, why: Refusal) -> Turned
     }
 }
 
-fn begun_of(h: Hand, b: Begun) -> Turned
-    ensures { λ o. ⌜ o ≡ begunOf h b ⌝ }
+fn started(h: Hand, e: Call) -> Turned
+    ensures { λ o. ⌜ o ≡ begunOf h (begunBy (e .ask) (e .list) (h .used) (h .task) (h .change) (h .near)) ⌝ }
 {
+    let was = h.task;
+    let named = h.change;
+    let near = h.near;
+    let b = begin::start(e, h.used, was, named, near);
     let rec = h.rec;
     let change = b.change;
     let task = b.task;
@@ -104,15 +106,20 @@ fn begun_of(h: Hand, b: Begun) -> Turned
     }
 }
 
-fn stepped_of(h: Hand, d: Stored) -> Turned
-    ensures { λ o. ⌜ o ≡ steppedOf h d ⌝ }
+fn stepped(h: Hand) -> Turned
+    ensures { λ o. ⌜ o ≡ steppedOf h (actOf (h .task) (h .access) (h .change) (h .rec) (h .link)) ⌝ }
 {
+    let was = h.task;
+    let a = h.access;
+    let named = h.change;
+    let touched = h.rec;
+    let near = h.link;
+    let d = act::act(was, a, named, touched, near);
     let rec = d.rec;
     let change = d.change;
     let task = d.task;
     let link = d.link;
-    let before = h.task;
-    let list = before.list;
+    let list = was.list;
     let answer = d.answer;
     let cells = d.cells;
     Turned {
@@ -126,26 +133,6 @@ fn stepped_of(h: Hand, d: Stored) -> Turned
         answer,
         cells,
     }
-}
-
-fn started(h: Hand, e: Call) -> Turned
-    ensures { λ o. ⌜ o ≡ begunOf h (begunBy (e .ask) (e .list) (h .used) (h .task) (h .change) (h .near)) ⌝ }
-{
-    let task = h.task;
-    let change = h.change;
-    let near = h.near;
-    begun_of(h, begin::start(e, h.used, task, change, near))
-}
-
-fn stepped(h: Hand) -> Turned
-    ensures { λ o. ⌜ o ≡ steppedOf h (actOf (h .task) (h .access) (h .change) (h .rec) (h .link)) ⌝ }
-{
-    let task = h.task;
-    let a = h.access;
-    let change = h.change;
-    let rec = h.rec;
-    let link = h.link;
-    stepped_of(h, act::act(task, a, change, rec, link))
 }
 
 // What a call that passed its refusals leaves.

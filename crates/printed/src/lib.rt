@@ -1,1 +1,1 @@
-// The text of the whole example, computed by the prover. No code: the theorem stands in proofs/.
+// What is printed: the text of the whole example, computed, and that demand 3 holds of every run that is printed. No code.

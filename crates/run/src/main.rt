@@ -2,7 +2,7 @@
 ghost use mathlib.Core.Bool.{true};
 ghost use mathlib.Core.Path.{_≡_};
 ghost use Rattle.runner.specs.declared.Ran.the-variants.{Text};
-ghost use Rattle.run.specs.Told.{isText};
+ghost use Rattle.run.specs.Ran.{isText};
 use libc::STDIN_FILENO;
 use libc::STDOUT_FILENO;
 use runner::Ran;

@@ -52,7 +52,7 @@ table-is s at size vs o es n32 ev eo =
 in-range : (p n k : ℕ) → 1 ≤ p → p ≤ 8 → 1 ≤ n → n ≤ 32 → k ≡ 4 * n → inRange p n k ≡ true
 in-range p n k p1 p8 n1 n32 e = rw (lt-ltb 0 p p1, le-leb p 8 p8, lt-ltb 0 n n1, le-leb n 32 n32, eq-eqb k (4 * n) e) refl
 
-ranged : (s : List ℕ) (at : Layout) → sheetOf s ≡ Read at → inRange (at .p) (at .n) (length (partsOf s at .values)) ≡ true
+pub ranged : (s : List ℕ) (at : Layout) → sheetOf s ≡ Read at → inRange (at .p) (at .n) (length (partsOf s at .values)) ≡ true
 unfolding partsOf numbers
 ranged s at e =
     let i = read-inside e in

@@ -7,11 +7,8 @@ use mathlib.Core.Path.{_≡_, refl, ap}
 use mathlib.Core.List.{List, [], _∷_, _++_}
 use lib.ListN.{getD, length, take, set, length-append}
 use lib.Seq.{sets, take-suc, length-take-le}
+use Rattle.text.proofs.Laws.{sets-append}
 use Rattle.sheet.specs.Layout.{lowFirst, valueBytes}
-
-pub sets-append : (s t l : List ℕ) (i : ℕ) → sets l i (s ++ t) ≡ sets (sets l i s) (i + length s) t
-sets-append [] t l i = rw add-zero
-sets-append (a ∷ s) t l i = rw (add-suc, ← suc-add) (sets-append s t _ (suc i))
 
 -- one byte more
 pub byte-more : (old : List ℕ) (at i : ℕ) (bytes : List ℕ) → i < length bytes

@@ -50,7 +50,7 @@ past-past size at j k = go (leb (at + j) size) (leb (at + (j + k)) size) (leb at
         let g = leb-false at size ed in
         rw (past-out size at j g, past-out size at (j + k) g) (past-out size at k g)
 
-sets-append : (s t l : List ℕ) (i : ℕ) → sets l i (s ++ t) ≡ sets (sets l i s) (i + length s) t
+pub sets-append : (s t l : List ℕ) (i : ℕ) → sets l i (s ++ t) ≡ sets (sets l i s) (i + length s) t
 sets-append [] t l i = rw add-zero
 sets-append (a ∷ s) t l i = rw (add-suc, ← suc-add) (sets-append s t _ (suc i))
 

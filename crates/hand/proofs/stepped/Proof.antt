@@ -1,4 +1,6 @@
 -- `hand::stepped` meets its contract.
+use mathlib.Core.Path.{ap}
+use Rattle.hand.specs.Hand.{steppedOf}
 use borrow.Author.Needs.{needs}
 use Rattle.hand.proofs.stepped.Statement.{statement}
 use Rattle.hand.proofs.stepped.Tie as tie
@@ -6,11 +8,8 @@ use Rattle.hand.proofs.stepped.Tie as tie
 act-requires : tie.Need-act-requires
 act-requires c κs = search needs
 
-stepped-of-requires : tie.Need-stepped-of-requires
-stepped-of-requires c κs = search needs
-
 returns : tie.Need-returns
-returns c = simp (c .before .act .ensures) at (c .stepped-of .ensures)
+returns c = ap (steppedOf (c .before .before .before .before .before .before .before .before .before .before .before .args .h)) (c .before .before .before .before .before .before .act .ensures)
 
 pub stepped-spec : {M : Type 1} → statement M
-stepped-spec = tie.close (tie.spec act-requires stepped-of-requires returns)
+stepped-spec = tie.close (tie.spec act-requires returns)

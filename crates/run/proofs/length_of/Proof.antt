@@ -2,7 +2,7 @@
 use mathlib.Core.Path.{sym, ap, _∙_}
 use mathlib.Core.Bool.{false≢true}
 use borrow.Author.Needs.{needs}
-use Rattle.run.specs.Told.{isText}
+use Rattle.run.specs.Ran.{isText}
 use Rattle.run.proofs.length_of.Statement.{statement}
 use Rattle.run.proofs.length_of.Tie as tie
 

@@ -3,7 +3,7 @@ use mathlib.Core.Path.{sym, ap, _∙_}
 use lib.Seq.{length-take-le}
 use borrow.Author.Needs.{needs}
 use Rattle.runner.proofs.Room.{in-buffer, enough}
-use Rattle.run.specs.Told.{isText}
+use Rattle.run.specs.Ran.{isText}
 use Rattle.run.proofs.main.Statement.{statement}
 use Rattle.run.proofs.main.Tie as tie
 
