@@ -27,6 +27,14 @@ use Rattle.play.proofs.play.Kinds as play-play-kinds
 use Rattle.play.proofs.play.Reads as play-play-reads
 use Rattle.runner.proofs.run.Kinds as runner-run-kinds
 use Rattle.runner.proofs.run.Reads as runner-run-reads
+use Rattle.runner.proofs.room_of.Kinds as runner-room-of-kinds
+use Rattle.runner.proofs.room_of.Reads as runner-room-of-reads
+use Rattle.sanding.proofs.sanding_refusal.Kinds as sanding-refusal-kinds
+use Rattle.sanding.proofs.sanding_refusal.Reads as sanding-refusal-reads
+use Rattle.sanding.proofs.sanding_room.Kinds as sanding-room-kinds
+use Rattle.sanding.proofs.sanding_room.Reads as sanding-room-reads
+use Rattle.sanding.proofs.sanding_run.Kinds as sanding-run-kinds
+use Rattle.sanding.proofs.sanding_run.Reads as sanding-run-reads
 use Rattle.once.proofs.Once.{Once, OnceLent}
 
 -- a text put into a buffer leaves one place after it, and one buffer
@@ -94,8 +102,24 @@ play-play κs a o p s t e f = plays-once e f
 pub play-play-lent : OnceLent 2 play-play-kinds.ps play-play-kinds.r play-play-reads.Post (λ κs s. now (s .1 .1 .1 .0))
 play-play-lent κs a o p s t e f = put-lent (e .lines) (f .lines)
 
+pub runner-room-of : Once 0 runner-room-of-kinds.ps runner-room-of-kinds.r runner-room-of-reads.Post
+runner-room-of κs a o p s t e f = e ∙ sym f
+
 pub runner-run : Once 2 runner-run-kinds.ps runner-run-kinds.r runner-run-reads.Post
 runner-run κs a o p s t e f = e .0 ∙ sym (f .0)
 
 pub runner-run-lent : OnceLent 2 runner-run-kinds.ps runner-run-kinds.r runner-run-reads.Post (λ κs s. now (s .1 .0))
 runner-run-lent κs a o p s t e f = e .1 ∙ sym (f .1)
+
+-- what the static library exports
+pub sanding-refusal : Once 1 sanding-refusal-kinds.ps sanding-refusal-kinds.r sanding-refusal-reads.Post
+sanding-refusal κs a o p s t e f = e ∙ sym f
+
+pub sanding-room : Once 1 sanding-room-kinds.ps sanding-room-kinds.r sanding-room-reads.Post
+sanding-room κs a o p s t e f = e ∙ sym f
+
+pub sanding-run : Once 2 sanding-run-kinds.ps sanding-run-kinds.r sanding-run-reads.Post
+sanding-run κs a o p s t e f = e .0 ∙ sym (f .0)
+
+pub sanding-run-lent : OnceLent 2 sanding-run-kinds.ps sanding-run-kinds.r sanding-run-reads.Post (λ κs s. now (s .1 .0))
+sanding-run-lent κs a o p s t e f = e .1 ∙ sym (f .1)

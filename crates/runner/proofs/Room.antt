@@ -19,29 +19,32 @@ use Rattle.runner.specs.declared.Ran.{Ran}
 use Rattle.runner.specs.declared.Ran.the-variants.{Text, Short}
 use Rattle.runner.specs.Run.{textAs, textOf, roomAs, ranOf, printedOf}
 
-module _ (s old : List ℕ) (x : Sheet) (e : x ≡ sheetOf s) where
-  pub too-short : length old < roomAs x → (Short (roomAs x) ≡ ranOf s (length old)) × (old ≡ printedOf s old)
+module _ (s old : List ℕ) (x : Sheet) (e : x ≡ sheetOf s) (room : ℕ) (k : room ≡ roomAs x) where
+  pub too-short : length old < room → (Short room ≡ ranOf s (length old)) × (old ≡ printedOf s old)
   unfolding ranOf printedOf
-  too-short h = (rw (← e, lt-leb (roomAs x) (length old) h) refl, rw (← e, lt-leb (roomAs x) (length old) h) refl)
+  too-short h =
+      let less : length old < roomAs x = omega arith in
+      (rw (k, ← e, lt-leb (roomAs x) (length old) less) refl, rw (← e, lt-leb (roomAs x) (length old) less) refl)
 
-  pub printed : (new : List ℕ) (r : ℕ) → roomAs x ≤ length old → Put old 0 (textAs s x) new r × (length (textAs s x) ≤ roomAs x)
+  pub printed : (new : List ℕ) (r : ℕ) → room ≤ length old → Put old 0 (textAs s x) new r × (length (textAs s x) ≤ roomAs x)
       → (Text r ≡ ranOf s (length old)) × (new ≡ printedOf s old)
   unfolding ranOf printedOf textOf
   printed new r h put =
-      let fits = le-trans (put .1) h in
-      (rw (← e, le-leb (roomAs x) (length old) h) (ap Text (reached (put .0) fits)), rw (← e, le-leb (roomAs x) (length old) h) (whole (put .0) fits))
+      let enough : roomAs x ≤ length old = omega arith in
+      let fits = le-trans (put .1) enough in
+      (rw (← e, le-leb (roomAs x) (length old) enough) (ap Text (reached (put .0) fits)), rw (← e, le-leb (roomAs x) (length old) enough) (whole (put .0) fits))
 
 -- what a caller is told to read lies in the buffer
-pub in-buffer : (s old new : List ℕ) (o : Ran) (n : ℕ) → (o ≡ ranOf s (length old)) × (new ≡ printedOf s old) → length new ≡ length old → o ≡ Text n → n ≤ length new
+pub in-buffer : (s old : List ℕ) (n : ℕ) → ranOf s (length old) ≡ Text n → n ≤ length (printedOf s old)
 unfolding ranOf printedOf
-in-buffer s old new o n said kept told = go (leb (roomAs (sheetOf s)) (length old)) (sym told ∙ said .0) (said .1)
+in-buffer s old n = by (leb (roomAs (sheetOf s)) (length old))
   where
-    go : (b : Bool) → Text n ≡ pick b (Text (length (textOf s))) (Short (roomAs (sheetOf s))) → new ≡ pick b (textOf s ++ drop (length (textOf s)) old) old → n ≤ length new
-    go true e f =
-        let k : n ≡ length (textOf s) = cc in
-        let l : length new ≡ length (textOf s) + length (drop (length (textOf s)) old) = ap length f ∙ length-append (textOf s) _ in
+    by : (b : Bool) → pick b (Text (length (textOf s))) (Short (roomAs (sheetOf s))) ≡ Text n → n ≤ length (pick b (textOf s ++ drop (length (textOf s)) old) old)
+    by true e =
+        let k : length (textOf s) ≡ n = cc in
+        let l : length (textOf s ++ drop (length (textOf s)) old) ≡ length (textOf s) + length (drop (length (textOf s)) old) = length-append (textOf s) _ in
         omega arith
-    go false e f = let z : _≡_ {A = ℕ} 0 1 = cc in absurd (omega arith)
+    by false e = let z : _≡_ {A = ℕ} 0 1 = cc in absurd (omega arith)
 
 -- 211,236 bytes are room for every sheet
 pub enough : (s : List ℕ) (size : ℕ) → 211236 ≤ size → ranOf s size ≡ Text (length (textOf s))

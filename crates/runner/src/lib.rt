@@ -6,7 +6,7 @@ ghost use Rattle.text.specs.Text.{joined};
 ghost use Rattle.text.specs.Put.{Put};
 ghost use Rattle.sheet.specs.declared.Sheet.the-variants.{Read};
 ghost use Rattle.sheet.specs.Layout.{sheetOf};
-ghost use Rattle.runner.specs.Run.{recordLineAt, tableOf, runOf, ranOf, printedOf};
+ghost use Rattle.runner.specs.Run.{recordLineAt, tableOf, runOf, roomAs, ranOf, printedOf};
 use sheet::Layout;
 use sheet::Sheet;
 use table::Machine;
@@ -69,26 +69,30 @@ fn put_run(s: &[u8], at: Layout, out: &mut [u8]) -> usize
     lines::put_tally(out, next, tally)
 }
 
+// How long a buffer must be for the longest text that a sheet read so could have.
+pub fn room_of(read: Sheet) -> usize
+    ensures { λ o. ⌜ o ≡ roomAs read ⌝ }
+{
+    match read {
+        Sheet::Read { at } => EVENT_LINE * at.count as usize
+            + RECORD_LINE * at.n as usize
+            + TALLY_LINE,
+        Sheet::Refused { .. } => REFUSAL_LINE,
+    }
+}
+
 // For any bytes and any buffer.
 pub fn run(s: &[u8], out: &mut [u8]) -> Ran
     ensures { λ o. ⌜ (o ≡ ranOf (now (s .entry)) (length (now (out .entry)))) × (now (out .exit) ≡ printedOf (now (s .entry)) (now (out .entry))) ⌝ }
 {
     let read = sheet::layout_of(s);
-    match read {
-        Sheet::Read { at } => {
-            let room = EVENT_LINE * at.count as usize + RECORD_LINE * at.n as usize + TALLY_LINE;
-            if out.len() < room {
-                return Ran::Short { room };
-            }
-            let length = put_run(s, at, out);
-            Ran::Text { length }
-        }
-        Sheet::Refused { why } => {
-            if out.len() < REFUSAL_LINE {
-                return Ran::Short { room: REFUSAL_LINE };
-            }
-            let length = lines::put_refusal(out, 0, why);
-            Ran::Text { length }
-        }
+    let room = room_of(read);
+    if out.len() < room {
+        return Ran::Short { room };
     }
+    let length = match read {
+        Sheet::Read { at } => put_run(s, at, out),
+        Sheet::Refused { why } => lines::put_refusal(out, 0, why),
+    };
+    Ran::Text { length }
 }

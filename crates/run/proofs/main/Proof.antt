@@ -29,10 +29,10 @@ length-of-requires : tie.Need-length-of-requires
 length-of-requires c κs = ap isText (c .before .run .ensures .0 ∙ enough _ _ (search needs))
 
 array-share-prefix-text : tie.Need-array-share-prefix-text
-array-share-prefix-text c = in-buffer _ _ _ _ _ (c .before .before .run .ensures) (c .before .before .run .kept .1 .0) (c .length-of .ensures)
+array-share-prefix-text c = rw (c .before .before .run .ensures .1) (in-buffer _ _ _ (sym (c .before .before .run .ensures .0) ∙ c .length-of .ensures))
 
 slice-aggregate-write-all : tie.Need-slice-aggregate-write-all
-slice-aggregate-write-all c = sym (length-take-le _ _ (in-buffer _ _ _ _ _ (c .before .before .before .run .ensures) (c .before .before .before .run .kept .1 .0) (c .before .length-of .ensures)))
+slice-aggregate-write-all c = sym (length-take-le _ _ (rw (c .before .before .before .run .ensures .1) (in-buffer _ _ _ (sym (c .before .before .before .run .ensures .0) ∙ c .before .length-of .ensures))))
 
 write-all-requires : tie.Need-write-all-requires
 write-all-requires c κs = search needs
