@@ -4,13 +4,13 @@
 # - a path, below the root or crates/: has a `/` or a known ending. `crate/edit` is an edit. A bare file name is, in docs/CLAIMS.md, in the
 #   folder that the column's heading or the last path of the paragraph names; on the other pages anywhere. `.ending`: some file has it.
 # - a name, which must be declared: in a file (a folder) if it directly follows that, alone or in a list, if the column's heading names it,
-#   or if `name` (`file`) or `name` of `file` is said; else anywhere. `crate::name` is in that crate; `Type::name`, `Type.name` and `name` of
-#   `Type` are in that type. `-end` or `start-`: some declared name has it. On the other pages a crate's name will do.
+#   or if `name` (`file`), `name` of `file` or `name` in `file` is said; else anywhere. `crate::name` is in that crate; `Type::name`, `Type.name` and `name` of
+#   `Type`, also in a column's heading, are in that type. `-end` or `start-`: some declared name has it. On the other pages a crate's name will do.
 # - a command: has a space, and its first word is a path or a program named below.
 # - else an expression: each of its words of three letters and more is a name.
 # A single letter, also with an index as in `r_i`, is a variable or a printed letter. Beyond that only these words go unasked:
 BEGIN {
-  n = split("requires impl enum mut bool u16 set now", word, " ") # of the language and of the kit's library
+  n = split("requires ensures impl enum mut bool u16 set", word, " ") # of the language and of the kit's library
   for (i = 1; i <= n; i++) known[word[i]] = 1
   program["valgrind"] = known["second"] = 1 # not of this repository; the second program's file
   claims = page == "docs/CLAIMS.md"
@@ -22,8 +22,9 @@ function declared(name, where, token) { # where: a file, a folder with its last 
   else wrong("`" token "` is not declared" (where == "" ? "" : " in " where) (name in any ? ", but in " any[name] : ""))
 }
 function owned(type, name, token) { names++; if (!((type, name) in of)) wrong("`" token "`: " type " has no " name) }
-function named(name, where, token,   part, n) {
+function named(name, where, token,   part, n) { # where: also `type:X` for what stands in the type X
   if (name in known || length(name) == 1 || name ~ /^[a-z]_[a-z]$/) return
+  if (sub(/^type:/, "", where)) { owned(where, name, token); return }
   n = split(name, part, /::|\./)
   if (n == 1 || where != "") declared(part[n], where, token)
   if (n == 2 && part[1] in crate || n == 3) declared(part[n], "crates/" part[1] "/", token)
@@ -62,7 +63,7 @@ function scan(text, where,   part, n, i, j, token, sep, last, list, m, p) { # wh
       paths++
       where = path_of(token)
       if (where == "") wrong("`" token "`: there is no such file")
-      else if (sep == " of " || sep == " (" && part[i + 1] ~ /^\)/) for (j = 1; j <= m; j++) named(list[j], where, list[j])
+      else if (sep ~ /^ (of|in) $/ || sep == " (" && part[i + 1] ~ /^\)/) for (j = 1; j <= m; j++) named(list[j], where, list[j])
       if (where ~ /\//) { folder = where; sub(/[^\/]*$/, "", folder) }
       last = "path"
       m = 0
@@ -95,7 +96,7 @@ FILENAME == ARGV[3] { crate[$0] = 1; next }
   for (c = 2; c < n; c++) {
     folder = table ? home[c] : ""
     p = scan(cell[c], table ? head[c] : "")
-    if (!table) { head[c] = cell[c] ~ /\(`[^`]*`\) *$/ ? p : ""; home[c] = folder }
+    if (!table) { head[c] = cell[c] ~ /\(`[^`]*`\) *$/ ? p : match(cell[c], / of `[A-Za-z0-9]*` *$/) ? "type:" substr(cell[c], RSTART + 5, index(substr(cell[c], RSTART + 5), "`") - 1) : ""; home[c] = folder }
   }
   table = 1
 }
