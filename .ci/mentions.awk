@@ -4,8 +4,9 @@
 # - a path, below the root or crates/: has a `/` or a known ending. `crate/edit` is an edit. A bare file name is, in docs/CLAIMS.md, in the
 #   folder that the column's heading or the last path of the paragraph names; on the other pages anywhere. `.ending`: some file has it.
 # - a name, which must be declared: in a file (a folder) if it directly follows that, alone or in a list, if the column's heading names it,
-#   or if `name` (`file`), `name` of `file` or `name` in `file` is said; else anywhere. `crate::name` is in that crate; `Type::name`, `Type.name` and `name` of
-#   `Type`, also in a column's heading, are in that type. `-end` or `start-`: some declared name has it. On the other pages a crate's name will do.
+#   or if `name` (`file`), `name` of `file` or `name` in `file` is said; else anywhere. `crate::name` is in that crate; `Type::name`,
+#   `Type.name` and `name` of `Type`, also by a column's heading, are in that type. `-end` or `start-`: some declared name has it.
+#   On the other pages a crate's name will do.
 # - a command: has a space, and its first word is a path or a program named below.
 # - else an expression: each of its words of three letters and more is a name.
 # A single letter, also with an index as in `r_i`, is a variable or a printed letter. Beyond that only these words go unasked:
@@ -15,11 +16,12 @@ BEGIN {
   program["valgrind"] = known["second"] = 1 # not of this repository; the second program's file
   claims = page == "docs/CLAIMS.md"
 }
-function wrong(text) { print page ":" FNR ": " text; bad = 1 }
+function wrong(text) { print page ":" (ended ? " " : FNR ": ") text; bad = 1 }
 function declared(name, where, token) { # where: a file, a folder with its last `/`, or "" for anywhere
   names++
-  if (where == "" ? name in any || !claims && name in crate : (where, name) in inside) { if (where ~ /must-fail\/$/) mentioned[where name ".edit"] = 1 }
-  else wrong("`" token "` is not declared" (where == "" ? "" : " in " where) (name in any ? ", but in " any[name] : ""))
+  if (where == "" ? name in any || !claims && name in crate : (where, name) in inside) {
+    if (where ~ /must-fail\/$/) mentioned[where name ".edit"] = 1
+  } else wrong("`" token "` is not declared" (where == "" ? "" : " in " where) (name in any ? ", but in " any[name] : ""))
 }
 function owned(type, name, token) { names++; if (!((type, name) in of)) wrong("`" token "`: " type " has no " name) }
 function named(name, where, token,   part, n) { # where: also `type:X` for what stands in the type X
@@ -79,6 +81,11 @@ function scan(text, where,   part, n, i, j, token, sep, last, list, m, p) { # wh
   }
   return where
 }
+function heading(text, last) { # what a column's heading binds its cells to: `.. (path)`, or `.. of Type`
+  if (text ~ /\(`[^`]*`\) *$/) return last
+  if (!sub(/^.* of `/, "", text) || !sub(/` *$/, "", text)) return ""
+  return "type:" text
+}
 FILENAME == ARGV[1] {
   any[$3] = $1; inside[$1, $3] = 1; of[$2, $3] = 1; owner[$2] = 1
   p = $1; sub(/.*\//, "", p); inside[p, $3] = 1
@@ -96,12 +103,12 @@ FILENAME == ARGV[3] { crate[$0] = 1; next }
   for (c = 2; c < n; c++) {
     folder = table ? home[c] : ""
     p = scan(cell[c], table ? head[c] : "")
-    if (!table) { head[c] = cell[c] ~ /\(`[^`]*`\) *$/ ? p : match(cell[c], / of `[A-Za-z0-9]*` *$/) ? "type:" substr(cell[c], RSTART + 5, index(substr(cell[c], RSTART + 5), "`") - 1) : ""; home[c] = folder }
+    if (!table) { head[c] = heading(cell[c], p); home[c] = folder }
   }
   table = 1
 }
 END {
-  FNR = "end"
+  ended = 1
   if (claims) {
     for (p in edits) { edit_count++; if (!(p in mentioned)) wrong("the edit " p " is not mentioned") }
     for (p in crate) { crate_count++; if (text !~ "`" p "(/|::)") wrong("the crate " p " is not mentioned") }
