@@ -2,6 +2,7 @@
 
 pub mod cover;
 pub mod damage;
+pub mod differ;
 pub mod form;
 pub mod generate;
 pub mod help;

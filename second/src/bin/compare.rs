@@ -3,11 +3,12 @@
 //! `compare PROGRAM [SHEETS [SEED]]` and `compare --broken [SHEETS [SEED]]`.
 
 use second::cover::Cover;
+use second::differ::{beside, difference};
 use second::sheet::{Sheet, EVENT};
 use second::watch::{Broken, Flaw, Nobody};
 use second::{generate, runner};
 use std::fs::{self, File};
-use std::path::{Path, PathBuf};
+use std::path::Path;
 use std::process::{Command, ExitCode, Stdio};
 
 const SHEETS: u64 = 2000;
@@ -53,12 +54,6 @@ fn compare(program: &str, sheets: u64, seed: u64) -> Result<(), String> {
     judge(&cover, sheets)
 }
 
-/// A file next to this program, so that nothing is left elsewhere.
-fn beside(name: &str) -> Result<PathBuf, String> {
-    let program = std::env::current_exe().map_err(|why| why.to_string())?;
-    Ok(program.with_file_name(name))
-}
-
 /// What the other program prints for the sheet in this file.
 fn theirs(program: &str, path: &Path) -> Result<Vec<u8>, String> {
     let input = File::open(path).map_err(|why| why.to_string())?;
@@ -68,23 +63,6 @@ fn theirs(program: &str, path: &Path) -> Result<Vec<u8>, String> {
         Ok(output.stdout)
     } else {
         Err(format!("{program}: {}", output.status))
-    }
-}
-
-/// The first line in which two texts differ.
-fn difference(ours: &[u8], theirs: &[u8]) -> Option<String> {
-    if ours == theirs {
-        return None;
-    }
-    let (mut our_lines, mut their_lines) = (ours.split_inclusive(|&b| b == b'\n'), theirs.split_inclusive(|&b| b == b'\n'));
-    let mut number = 1;
-    loop {
-        let (our, their) = (our_lines.next(), their_lines.next());
-        if our != their {
-            let show = |line: Option<&[u8]>| line.map_or("no line".into(), |line| format!("{:?}", String::from_utf8_lossy(line)));
-            return Some(format!("line {number} should be {} and is {}", show(our), show(their)));
-        }
-        number += 1;
     }
 }
 
