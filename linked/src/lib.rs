@@ -8,6 +8,9 @@ pub const SHEET: usize = 65_000;
 /// A buffer this long is enough for the run of every sheet.
 pub const ROOM: usize = 211_236;
 
+/// A thread whose stack has this many bytes may call each function.
+pub const STACK: usize = 262_144;
+
 /// The exported functions as they stand in the archive; a slice passes as pointer and length.
 mod archive {
     extern "C" {
