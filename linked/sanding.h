@@ -1,11 +1,11 @@
 /* The proved runner of sheets, for C: the functions of libsanding.a, x86-64 with the System V calling convention.
  *
- * A sheet is lent as pointer and length and is only read; a buffer is lent as pointer and length and is only written. The caller
- * owns both, and the library keeps neither after a call. No pointer may be null, not even with length 0, and a buffer must not
- * overlap the sheet: the compiler relies on that.
+ * A sheet is lent as pointer and length and is only read; a buffer is lent as pointer and length and is written. The caller owns both,
+ * and the library keeps neither after a call. No pointer may be null, not even with length 0, and a buffer must not overlap the sheet:
+ * the compiler relies on that.
  *
- * There are no other demands: every sequence of bytes is a sheet or is refused. The library takes no heap memory, makes no call of
- * the operating system and has no variables, so that threads may call it at once.
+ * There are no other demands: every sequence of bytes is a sheet or is refused. The library calls memcpy and nothing else, so it takes no
+ * heap memory and asks nothing of the operating system; it has no variables, so threads may call it at once, each with its own buffer.
  */
 #ifndef SANDING_H
 #define SANDING_H
@@ -24,7 +24,7 @@ extern "C" {
 #define SANDING_ROOM 211236
 
 /* A thread whose stack has this many bytes may call each function. */
-#define SANDING_STACK 262144
+#define SANDING_STACK 65536
 
 /* The number of the refusal that this sheet gets, or 0 if it is accepted. Runs nothing.
  *   20 under 8 or over 65,000 bytes

@@ -9,7 +9,7 @@ pub const SHEET: usize = 65_000;
 pub const ROOM: usize = 211_236;
 
 /// A thread whose stack has this many bytes may call each function.
-pub const STACK: usize = 262_144;
+pub const STACK: usize = 65_536;
 
 /// The exported functions as they stand in the archive; a slice passes as pointer and length.
 mod archive {
