@@ -89,7 +89,7 @@ impl Lender {
             return Some(what);
         }
         if answer != wanted.map(str::len) {
-            return Some(format!("a length of {:?} is answered in place of {:?}", answer, wanted.map(str::len)));
+            return Some(format!("the length should be {} and is {}", text.len(), answer.unwrap_or(0)));
         }
         let kept = [0..start, start + text.len()..before.len()];
         let altered = kept.into_iter().find(|part| before[part.clone()] != after[part.clone()])?;
@@ -102,11 +102,11 @@ impl Lender {
 pub fn check(library: &impl Library, k: u64, sheet: &[u8], right: &Right, lender: &mut Lender) -> Option<String> {
     let refusal = library.refusal(sheet);
     if refusal != right.refusal {
-        return Some(format!("a refusal of {refusal:?} in place of {:?}", right.refusal));
+        return Some(format!("the refusal should be {} and is {}", right.refusal.unwrap_or(0), refusal.unwrap_or(0)));
     }
     let room = library.room(sheet);
     if room != right.room {
-        return Some(format!("a room of {room} in place of {}", right.room));
+        return Some(format!("the room should be {} and is {room}", right.room));
     }
     let mut random = Random::of(0, k);
     let length = match random.below(16) {
