@@ -98,6 +98,10 @@ impl Library for StandIn<'_> {
             Fault::Behind => all[lent.end] = 0,
             _ => {}
         }
-        Some(if matches!(self.0, Fault::LengthMore | Fault::LastByte) { text.len() + 1 } else { text.len() })
+        Some(match self.0 {
+            Fault::LengthMore => text.len() + 1,
+            Fault::LastByte => self.1.text.len(),
+            _ => text.len(),
+        })
     }
 }
