@@ -1,14 +1,14 @@
 -- What a change wrote down when it started stays: no call alters it, and a number that was given is not given again. So to look at
 -- it is no shared access.
-use Prim.Native.Nat.{ℕ, suc, _+_, _≤_}
+use Prim.Native.Nat.{ℕ, _+_, _≤_}
 use native.Mathlib.Omega.{arith}
 use native.Mathlib.Nat.{le-refl}
-use native.Mathlib.Decide.{ℕ-discrete, decLt}
 use mathlib.Core.Path.{_≡_, refl}
 use mathlib.Core.List.{List}
-use lib.ListN.{getD, set, length}
-use lib.Seq.{getD-set-same, getD-set-other, set-out}
+use lib.ListN.{getD, set}
+use lib.Seq.{getD-set-other}
 use Rattle.rules.specs.Words.{Change, Machine, Ask, AskLlx, AskScx, AskVlx, AskRead, AskStep, Access, Call, Check, Passed, Failed}
+use Rattle.keeps.proofs.Stores.{any}
 use Rattle.table.specs.Table.{noChange, changeAt}
 use Rattle.rules.specs.Access.{changeIn}
 use Rattle.rules.specs.Perform.{changeBy, perform}
@@ -35,13 +35,10 @@ touched : (a : Access) (x : Change) → Same (changeBy a x) x
 touched a x = record { n = refl; v = refl; r = refl; written = refl; field = refl; new = refl; old = refl; infos = refl }
 
 -- an access alters a change's state and allFrozen alone
-by-access : (a : Access) (cs : List Change) (c u : ℕ) → Same (getD (set cs c (changeBy a (getD cs c noChange))) u noChange) (getD cs u noChange)
-by-access a cs c u = go (ℕ-discrete u c) (decLt c (length cs))
-  where
-    go : Dec (u ≡ c) → Dec (suc c ≤ length cs) → Same (getD (set cs c (changeBy a (getD cs c noChange))) u noChange) (getD cs u noChange)
-    go (yes e) (yes l) = rw (e, getD-set-same cs c (changeBy a (getD cs c noChange)) noChange l) (touched a (getD cs c noChange))
-    go (yes e) (no l) = rw (set-out cs c (changeBy a (getD cs c noChange)) (omega arith)) (alike (getD cs u noChange))
-    go (no ne) l = rw (getD-set-other cs c u (changeBy a (getD cs c noChange)) noChange ne) (alike (getD cs u noChange))
+pub by-access : (a : Access) (cs : List Change) (c u : ℕ) → Same (getD (set cs c (changeBy a (getD cs c noChange))) u noChange) (getD cs u noChange)
+by-access a cs c u =
+    any (λ (y : Change). Same y (getD cs u noChange)) cs c (changeBy a (getD cs c noChange)) noChange u
+    (λ e. rw e (touched a (getD cs c noChange))) (alike (getD cs u noChange))
 
 by-accepted : (m : Machine) (t : ℕ) (ask : Ask) (l : List ℕ) (u : ℕ) → u ≤ m .used → Same (changeAt (accepted m t ask l .m) u) (changeAt m u)
 unfolding started start step settle perform

@@ -5,6 +5,7 @@ pub mod Links
 pub mod Frame
 pub mod Acts
 pub mod Moves
+pub mod Fixed
 pub mod Steps
 pub mod Starts
 pub mod Scx
@@ -17,4 +18,3 @@ pub mod Bounds
 pub mod Always
 pub mod Lowest
 pub mod Refused
-pub mod Fixed

@@ -27,7 +27,8 @@ pub lowest : (rs : List Rule) (why : Refusal) → check rs ≡ Failed why → Br
 lowest [] why h = let z : _≡_ {A = ℕ} 0 1 = cc in absurd (omega arith)
 lowest (x ∷ xs) why h = go (test 0 (x .unless)) refl h (λ e. lowest xs why e)
   where
-    go : (b : Bool) → test 0 (x .unless) ≡ b → pick b (check xs) (Failed (x .why)) ≡ Failed why → (check xs ≡ Failed why → Broken xs why) → Broken (x ∷ xs) why
+    go : (b : Bool) → test 0 (x .unless) ≡ b → pick b (check xs) (Failed (x .why)) ≡ Failed why → (check xs ≡ Failed why → Broken xs why)
+        → Broken (x ∷ xs) why
     go true e f later =
         let y = later f in
         record {

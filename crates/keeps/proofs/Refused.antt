@@ -1,7 +1,8 @@
--- A call that answers a refusal alters no word of the state; and a start makes no shared access.
+-- What a call answers and leaves alone: one that passes its rules answers no refusal, and one that answers a refusal alters no word of
+-- the state; a step of a busy task leaves it idle exactly if it answers other than 0; a start makes no shared access.
 use Prim.Native.Nat.{ℕ, _+_}
 use native.Mathlib.Omega.{arith}
-use mathlib.Core.Path.{_≡_, refl, sym, _∙_}
+use mathlib.Core.Path.{_≡_, refl, sym, _∙_, subst}
 use mathlib.Core.Logic.{_≢_}
 use mathlib.Core.Bool.{Bool, true, false, not, true≢false}
 use mathlib.Core.List.{List, _∷_}
@@ -46,32 +47,35 @@ pub record Plain (v : Move) : Type 0 where
   pub no-refusal : isRefusal (v .answer) ≡ false
   pub ends : isIdle (v .place) ≡ not (isAccepted (v .answer))
 
+-- on to a place that is not idle, and done with an answer
+going : (q : Place) → isIdle q ≡ false → Plain (on q)
+going q h = record { no-refusal = refl; ends = h }
+
+ended : (a : Answer) → isRefusal a ≡ false → isAccepted a ≡ false → Plain (done a)
+ended a h k = record { no-refusal = h; ends = rw k refl }
+
 either : (b : Bool) (v w : Move) → Plain v → Plain w → Plain (pick b v w)
 either true v w h k = h
 either false v w h k = k
 
 plain-verdict : (ok : Bool) (after : After) → Plain (verdict ok after)
-plain-verdict true Own = record { no-refusal = refl; ends = refl }
-plain-verdict false Own = record { no-refusal = refl; ends = refl }
-plain-verdict true (AtL8 r true) = record { no-refusal = refl; ends = refl }
-plain-verdict true (AtL8 r false) = record { no-refusal = refl; ends = refl }
-plain-verdict false (AtL8 r m1) = record { no-refusal = refl; ends = refl }
-plain-verdict ok AtL11 = record { no-refusal = refl; ends = refl }
+plain-verdict true Own = ended Yes refl refl
+plain-verdict false Own = ended No refl refl
+plain-verdict true (AtL8 r true) = ended Finalized refl refl
+plain-verdict true (AtL8 r false) = going (L9 r) refl
+plain-verdict false (AtL8 r m1) = going (L9 r) refl
+plain-verdict ok AtL11 = ended Fail refl refl
 
 plain-l7 : (r : ℕ) (m1 : Bool) (a : ℕ) (s : State) → Plain (afterL7 r m1 a s)
-plain-l7 r m1 a InProgress = record { no-refusal = refl; ends = refl }
-plain-l7 r true a Committed = record { no-refusal = refl; ends = refl }
-plain-l7 r false a Committed = record { no-refusal = refl; ends = refl }
-plain-l7 r m1 a Aborted = record { no-refusal = refl; ends = refl }
+plain-l7 r m1 a InProgress = going (L8 r m1 a) refl
+plain-l7 r true a Committed = ended Finalized refl refl
+plain-l7 r false a Committed = going (L9 r) refl
+plain-l7 r m1 a Aborted = going (L8 r m1 a) refl
 
 plain-l10 : (r : ℕ) (s : State) → Plain (afterL10 r s)
-plain-l10 r InProgress = record { no-refusal = refl; ends = refl }
-plain-l10 r Committed = record { no-refusal = refl; ends = refl }
-plain-l10 r Aborted = record { no-refusal = refl; ends = refl }
-
--- on to a place that is not idle
-going : (q : Place) → isIdle q ≡ false → Plain (on q)
-going q h = record { no-refusal = refl; ends = h }
+plain-l10 r InProgress = going (L11 r) refl
+plain-l10 r Committed = ended Fail refl refl
+plain-l10 r Aborted = ended Fail refl refl
 
 one-of : (b : Bool) (q r : Place) → isIdle q ≡ false → isIdle r ≡ false → isIdle (pick b q r) ≡ false
 one-of true q r h k = h
@@ -94,34 +98,37 @@ busy-held u i n after = one-of (ltb (i + 1) n) (H1 u (i + 1) after) (H5 u after)
 -- a step of a busy task answers no refusal
 pub plain : (q : Place) (s : Seen) (ch : Change) (linked : ℕ) → isIdle q ≡ false → Plain (resume q s ch linked)
 plain Idle s ch linked h = absurd (true≢false h)
-plain (L1 r) s ch linked h = record { no-refusal = refl; ends = refl }
-plain (L2 r m1) s ch linked h = record { no-refusal = refl; ends = refl }
-plain (L3 r m1 a) s ch linked h = record { no-refusal = refl; ends = refl }
+plain (L1 r) s ch linked h = going _ refl
+plain (L2 r m1) s ch linked h = going _ refl
+plain (L3 r m1 a) s ch linked h = going _ refl
 plain (L4 r m1 a read) s ch linked h = going _ (busy-l4 r m1 a read (s .bit))
 plain (L5 r m1 a f) s ch linked h =
     record { no-refusal = refl; ends = one-of (ltb f 3) (L5 r m1 a (f + 1)) (L6 r m1 a) refl refl }
-plain (L6 r m1 a) s ch linked h = either (eqb (s .number) a) snapshot (on (L7 r m1 a)) (record { no-refusal = refl; ends = refl }) (record { no-refusal = refl; ends = refl })
+plain (L6 r m1 a) s ch linked h =
+    either (eqb (s .number) a) snapshot (on (L7 r m1 a)) (record { no-refusal = refl; ends = refl }) (going _ refl)
 plain (L7 r m1 a) s ch linked h = plain-l7 r m1 a (s .state)
 plain (L8 r m1 a) s ch linked h = going _ (busy-l8 r m1 a (s .state))
-plain (L9 r) s ch linked h = record { no-refusal = refl; ends = refl }
+plain (L9 r) s ch linked h = going _ refl
 plain (L10 r b) s ch linked h = plain-l10 r (s .state)
-plain (L11 r) s ch linked h = either (eqb (s .number) 0) (done Fail) (on (H1 (s .number) 0 AtL11)) (record { no-refusal = refl; ends = refl }) (record { no-refusal = refl; ends = refl })
+plain (L11 r) s ch linked h =
+    either (eqb (s .number) 0) (done Fail) (on (H1 (s .number) 0 AtL11)) (ended Fail refl refl) (going _ refl)
 plain (H1 u i after) s ch linked h = going _ (one-of (s .bit) (afterHeld u i (ch .n) after) (H2 u i after) (busy-held u i (ch .n) after) refl)
 plain (H2 u i after) s ch linked h =
     going _ (one-of (eqb (s .number) u) (afterHeld u i (ch .n) after) (H3 u after) (busy-held u i (ch .n) after) refl)
-plain (H3 u after) s ch linked h = either (s .bit) (verdict true after) (on (H4 u after)) (plain-verdict true after) (record { no-refusal = refl; ends = refl })
+plain (H3 u after) s ch linked h = either (s .bit) (verdict true after) (on (H4 u after)) (plain-verdict true after) (going _ refl)
 plain (H4 u after) s ch linked h = plain-verdict false after
 plain (H5 u after) s ch linked h = going _ (one-of (ltb (firstFrom (ch .r) 0) 4) (H6 u _ after) (H7 u after) refl refl)
 plain (H6 u i after) s ch linked h = going _ (one-of (ltb (firstFrom (ch .r) (i + 1)) 4) (H6 u _ after) (H7 u after) refl refl)
-plain (H7 u after) s ch linked h = record { no-refusal = refl; ends = refl }
+plain (H7 u after) s ch linked h = going _ refl
 plain (H8 u after) s ch linked h = plain-verdict true after
 plain (Vlx n i) s ch linked h =
     either (eqb (s .number) linked) (pick (ltb (i + 1) n) (on (Vlx n (i + 1))) (done Yes)) (noAndDrop n)
-    (either (ltb (i + 1) n) (on (Vlx n (i + 1))) (done Yes) (record { no-refusal = refl; ends = refl }) (record { no-refusal = refl; ends = refl })) (record { no-refusal = refl; ends = refl })
-plain (Read r f) s ch linked h = record { no-refusal = refl; ends = refl }
+    (either (ltb (i + 1) n) (on (Vlx n (i + 1))) (done Yes) (going _ refl) (ended Yes refl refl)) (record { no-refusal = refl; ends = refl })
+plain (Read r f) s ch linked h = ended _ refl refl
 
 -- what an accepted call answers is no refusal
-plain-accepted : (m : Machine) (t : ℕ) (ask : Ask) (l : List ℕ) → (ask ≡ AskStep → idleAt m t ≡ false) → isRefusal (accepted m t ask l .answer) ≡ false
+plain-accepted : (m : Machine) (t : ℕ) (ask : Ask) (l : List ℕ) → (ask ≡ AskStep → idleAt m t ≡ false)
+    → isRefusal (accepted m t ask l .answer) ≡ false
 unfolding started step moveAt
 plain-accepted m t (AskLlx r) l h = refl
 plain-accepted m t (AskScx n r written field new) l h = refl
@@ -130,7 +137,8 @@ plain-accepted m t (AskRead r f) l h = refl
 plain-accepted m t AskStep l h = plain (taskAt m t .place) _ _ _ (h refl) .no-refusal
 
 -- a STEP that passes its rules is of a busy task
-busy : (inside known idle : Bool) (why other more : Refusal) → pick inside (pick known (pick (not idle) Passed (Failed why)) (Failed other)) (Failed more) ≡ Passed → idle ≡ false
+busy : (inside known idle : Bool) (why other more : Refusal)
+    → pick inside (pick known (pick (not idle) Passed (Failed why)) (Failed other)) (Failed more) ≡ Passed → idle ≡ false
 busy true true false why other more h = refl
 busy true true true why other more h = let z : _≡_ {A = ℕ} 0 1 = cc in absurd (omega arith)
 busy true false idle why other more h = let z : _≡_ {A = ℕ} 0 1 = cc in absurd (omega arith)
@@ -138,12 +146,10 @@ busy false known idle why other more h = let z : _≡_ {A = ℕ} 0 1 = cc in abs
 
 step-busy : (m : Machine) (e : Call) → check (rulesOf m e) ≡ Passed → e .ask ≡ AskStep → idleAt m (e .task) ≡ false
 unfolding rulesOf
-step-busy m e h ask = busy (inShape m) (ltb (e .task) (m .p)) (idleAt m (e .task)) TaskIdle NoSuchTask OutOfShape (by-ask (e .ask) ask h)
-  where
-    by-ask : (ask : Ask) → ask ≡ AskStep
-        → check (unless OutOfShape (holds (inShape m)) ∷ rules (m .p) (m .n) (m .used) (idleAt m (e .task)) (linkedAt m e) (e .task) ask (e .list)) ≡ Passed
-        → check (unless OutOfShape (holds (inShape m)) ∷ rules (m .p) (m .n) (m .used) (idleAt m (e .task)) (linkedAt m e) (e .task) AskStep (e .list)) ≡ Passed
-    by-ask ask e h = rw e at h
+step-busy m e h ask =
+    busy (inShape m) (ltb (e .task) (m .p)) (idleAt m (e .task)) TaskIdle NoSuchTask OutOfShape
+    (subst (λ ask. check (unless OutOfShape (holds (inShape m))
+    ∷ rules (m .p) (m .n) (m .used) (idleAt m (e .task)) (linkedAt m e) (e .task) ask (e .list)) ≡ Passed) ask h)
 
 -- what passes its rules is not refused
 pub passed-answers : (m : Machine) (e : Call) → check (rulesOf m e) ≡ Passed → isRefusal (next m e .answer) ≡ false

@@ -2,7 +2,7 @@
 use Prim.Native.Nat.{ℕ, _<_, _≤_}
 use native.Mathlib.Omega.{arith}
 use native.Mathlib.Nat.{le-refl}
-use mathlib.Core.Path.{_≡_, refl, sym, ap, subst, _∙_}
+use mathlib.Core.Path.{_≡_, refl, subst, _∙_}
 use mathlib.Core.Logic.{_≢_}
 use mathlib.Core.Bool.{Bool, true, false≢true}
 use mathlib.Core.List.{List}
@@ -16,6 +16,7 @@ use Rattle.keeps.proofs.Links.{drop-each, slots-apart, drop-apart}
 use Rattle.keeps.proofs.Frame.{claimOf, Put, put-fine}
 use Rattle.keeps.proofs.Acts.{Leaves, accessFrom, seenFrom, acts}
 use Rattle.keeps.proofs.Moves.{MoveFine, moves}
+use Rattle.keeps.proofs.Fixed.{Same, by-access}
 use Rattle.table.specs.Table.{noRecord, noChange, noLink, recordAt, changeAt, taskAt, slot, linkAt}
 use Rattle.rules.specs.Access.{changeOf, recordOf, changeIn}
 use Rattle.rules.specs.Perform.{recordBy, changeBy, seen, perform}
@@ -24,7 +25,7 @@ use Rattle.rules.specs.Step.{taskBy, linkBy, dropFirst, settle, accessAt, moveA
 use Rattle.rules.specs.Claim.{Says}
 use Rattle.rules.specs.Shape.{recordFine, changeFine, linkFine}
 
--- task t makes access a, which saw s, and moves by v: what the access leaves and the move do is known to be in shape
+-- task t makes the access a, sees s and moves by v; what the access leaves is in shape, and where the move leads
 module _ (m : Machine) (F : Fine m) (t : ℕ) (tl : t < m .p) (a : Access) (s : Seen) (v : Move)
     (A : (recordOf a < m .n) × Leaves (m .used) a)
     (M : MoveFine m (λ r. linkAt m t r .there) (taskAt m t .cells) (taskAt m t .list) s v) where
@@ -79,11 +80,9 @@ module _ (m : Machine) (F : Fine m) (t : ℕ) (tl : t < m .p) (a : Access) (s : 
       rw e
       (any There (m .links) at link noLink (slot t r) (λ f. picked There (v .store) new (linkAt m t (recordOf a)) (λ g. refl) (λ g. rw f at h)) h)
 
-  -- what an access does not alter of a change is as it was
-  same : {B : Type 0} (f : Change → B) → ((y : Change) → f (changeBy a y) ≡ f y) → (u : ℕ) → f (getD changes u noChange) ≡ f (changeAt m u)
-  same f k u =
-      any (λ (y : Change). f y ≡ f (changeAt m u)) (m .changes) (changeIn a) (changeBy a (changeAt m (changeIn a))) noChange u
-      (λ e. k (changeAt m (changeIn a)) ∙ ap (λ i. f (changeAt m i)) (sym e)) refl
+  -- what a change wrote down is as it was
+  same : (u : ℕ) → Same (getD changes u noChange) (changeAt m u)
+  same u = by-access a (m .changes) (changeIn a) u
 
   records-fine : (r : ℕ) → r < m .n → Says (m .used) (recordFine (getD records r noRecord))
   records-fine r rl =
@@ -104,7 +103,7 @@ module _ (m : Machine) (F : Fine m) (t : ℕ) (tl : t < m .p) (a : Access) (s : 
       let later = getD changes u noChange in
       let linked : ℕ → Bool = λ r. getD links (slot t r) noLink .there in
       stays (m .used) (m .n) (ch .n) (ch .r) linked (set (x .cells) (v .field) (s .cell)) (x .list) (m .used) (later .n) (later .r) linked
-      (le-refl (m .used)) (same (λ y. y .n) (λ y. refl) u) (same (λ y. y .r) (λ y. refl) u) (λ r rl e. e) (v .place) (M .place-fine linked own-stay)
+      (le-refl (m .used)) (same u .n) (same u .r) (λ r rl e. e) (v .place) (M .place-fine linked own-stay)
 
   stepped : Put m t (m .used) records changes (taskBy x s v) links
   stepped =
@@ -113,8 +112,8 @@ module _ (m : Machine) (F : Fine m) (t : ℕ) (tl : t < m .p) (a : Access) (s : 
         used<256 = F .used<256;
         records = records-fine;
         changes = changes-fine;
-        same-n = λ u ul. same (λ y. y .n) (λ y. refl) u;
-        same-r = λ u ul. same (λ y. y .r) (λ y. refl) u;
+        same-n = λ u ul. same u .n;
+        same-r = λ u ul. same u .r;
         task = task-fine;
         others = λ j d r rl h. rw (others-stay j d r rl) h;
         links = links-fine;
