@@ -13,8 +13,7 @@ use Rattle.clauses.proofs.Memory.{Terms, Table}
 use Rattle.clauses.proofs.History.{Ghost}
 use Rattle.clauses.proofs.Clauses.{At, Live, Fine}
 use Rattle.clauses.proofs.Steps.{termsOf, is-stored, is-old, actAt, Saw}
-pub use Rattle.clauses.proofs.Advanced.{Advanced}
-use Rattle.clauses.proofs.Advanced.{by-none, reads}
+use Rattle.clauses.proofs.Advanced.{Advanced, by-none, reads}
 use Rattle.clauses.proofs.ReadsOn.{from-L4, from-L5, from-L6, from-L7, from-L8, from-L10, from-L11, from-Vlx}
 use Rattle.clauses.proofs.HelpsOn.{from-H1, from-H2, from-H3, from-H4, from-H5, from-H6, from-H7, from-H8}
 

@@ -12,6 +12,7 @@ use Rattle.clauses.proofs.Memory.{Act, nop, hold, abort, freeze, close,
 use Rattle.clauses.proofs.History.{Ghost, Reading, note}
 use Rattle.clauses.proofs.Clauses.{Live}
 use Rattle.clauses.proofs.Rights.{hold-going, write-going}
+use Rattle.clauses.proofs.Frame.{Took, took-back}
 use Rattle.clauses.proofs.Course.{Course, X, S, history, fine, turn, guard, room, now-is}
 
 hap-back : (S : Shared) (G : Ghost) (t : ℕ) (k : Reading) (b : Act) (u : ℕ) → note t b k S G .hap u ≡ true → (G .hap u ≡ true) ⊎ (b ≡ write u)
@@ -26,24 +27,6 @@ hap-back S G t k (write x) u h =
 hap-back S G t k (commit x) u h = inl h
 hap-back S G t k (make x c) u h =
     ⊎-elim (λ (e : u ≡ x). tf h (upd-hit (G .hap) x false e)) (λ n. inl (rw (upd-miss (G .hap) x false n) at h)) (same? u x)
-
--- an H1 of x at place i sets the info of r
-abbrev Took : Shared → Ghost → ℕ → Reading → Act → ℕ → Type 0
-Took S G t k b r = (x i : ℕ) × (b ≡ hold x i) × (S .terms x .rec i ≡ r) × (note t b k S G .took r ≡ suc (G .now)) × (apply b S .info r ≡ x)
-
-took-back : (S : Shared) (G : Ghost) (t : ℕ) (k : Reading) (b : Act) (r : ℕ)
-    → ((note t b k S G .took r ≡ G .took r) × (apply b S .info r ≡ S .info r)) ⊎ Took S G t k b r
-unfolding note apply
-took-back S G t k nop r = inl (refl, refl)
-took-back S G t k (hold x i) r =
-    ⊎-elim (λ (e : r ≡ S .terms x .rec i). inr (x, i, refl, sym e, upd-hit (G .took) _ _ e, upd-hit (S .info) _ _ e))
-    (λ n. inl (upd-miss (G .took) _ _ n, upd-miss (S .info) _ _ n)) (same? r (S .terms x .rec i))
-took-back S G t k (abort x) r = inl (refl, refl)
-took-back S G t k (freeze x) r = inl (refl, refl)
-took-back S G t k (close x i) r = inl (refl, refl)
-took-back S G t k (write x) r = inl (refl, refl)
-took-back S G t k (commit x) r = inl (refl, refl)
-took-back S G t k (make x c) r = inl (refl, refl)
 
 -- a cell alters by a write alone, and it is the one that the change names
 abbrev pub Wrote : Shared → Act → ℕ → ℕ → Type 0

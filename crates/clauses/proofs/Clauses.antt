@@ -51,11 +51,11 @@ Lost c hd S = (j : ℕ) × (j < c .n) × HeldTo hd j × (hd j ≡ false) × (S .
 pub record Ok (c : Terms) (s : State) (fz hp : Bool) (hd : ℕ → Bool) (e : ℕ → ℕ) (S : Shared) (G : Ghost) (u : ℕ) : Type 0 where
   -- what it wrote down: no record twice; the ranges; each stored info an anchor; the stamp of the old cell ended
   pub APART : (i j : ℕ) → i < c .n → j < c .n → c .rec i ≡ c .rec j → i ≡ j
-  pub SHAPE : (c .n ≤ 4) × (c .place < c .n) × (c .field < 4)
+  pub SHAPE : (c .n ≤ 4) × (c .written < c .n) × (c .field < 4)
   pub ANCHORS : (i : ℕ) → i < c .n → Anchor S G (c .rec i) (c .infos i) (e i)
   pub OLD-ENDED : S .state (c .old .stamp) ≢ InProgress
   -- until it happens, the cell is the old one as long as nobody else holds the record
-  pub SNAP : hp ≡ false → (S .info (spot c) ≡ c .infos (c .place)) ⊎ (S .info (spot c) ≡ u) → S .cell (spot c) (c .field) ≡ c .old
+  pub SNAP : hp ≡ false → (S .info (spot c) ≡ c .infos (c .written)) ⊎ (S .info (spot c) ≡ u) → S .cell (spot c) (c .field) ≡ c .old
   -- what was held has not the stored info; what has the info u was held; in progress, what was held has the info u; frozen, all was held
   pub GONE : (i : ℕ) → i < c .n → hd i ≡ true → S .info (c .rec i) ≢ c .infos i
   pub HELD : (i : ℕ) → i < c .n → S .info (c .rec i) ≡ u → hd i ≡ true
@@ -110,11 +110,15 @@ abbrev pub LinkOk : Shared → Ghost → ℕ → ℕ → Link → Type 0
 LinkOk S G e r k = k .there ≡ true
     → Anchor S G r (k .info) e × Snap S r (k .info) 4 (k .cells) × ((f : ℕ) → f < 4 → S .state (cellAt (k .cells) f .stamp) ≢ InProgress)
 
+-- a cell's stamp is the info of its record, or of an ended change
+abbrev pub Stamped : Shared → ℕ → ℕ → Type 0
+Stamped S r f = (S .cell r f .stamp ≡ S .info r) ⊎ (S .state (S .cell r f .stamp) ≢ InProgress)
+
 -- the invariant of a table with its history
 pub record Fine (X : Table) (G : Ghost) : Type 0 where
   pub ZERO : X .sh .state 0 ≡ Aborted
   pub PAST : (r : ℕ) → (G .took r ≤ G .now) × (G .eff r ≤ G .now)
-  pub STAMP : (r f : ℕ) → f < 4 → (X .sh .cell r f .stamp ≡ X .sh .info r) ⊎ (X .sh .state (X .sh .cell r f .stamp) ≢ InProgress)
+  pub STAMP : (r f : ℕ) → f < 4 → Stamped (X .sh) r f
   pub CHANGES : (u : ℕ) → Live X u → OkOf (X .sh) G u
   pub PLACES : (t : ℕ) → At (X .sh) G (X .task t .cells) (X .task t .place)
   pub LINKS : (t r : ℕ) → LinkOk (X .sh) G (G .read t r) r (X .link t r)
@@ -157,10 +161,10 @@ Off (make u c) y = y ≢ u
 pub record Made (S : Shared) (G : Ghost) (t u : ℕ) (c : Terms) : Type 0 where
   pub nonzero : u ≢ 0
   pub apart : (i j : ℕ) → i < c .n → j < c .n → c .rec i ≡ c .rec j → i ≡ j
-  pub shape : (c .n ≤ 4) × (c .place < c .n) × (c .field < 4)
+  pub shape : (c .n ≤ 4) × (c .written < c .n) × (c .field < 4)
   pub anchors : (i : ℕ) → i < c .n → Anchor S G (c .rec i) (c .infos i) (G .read t (c .rec i))
-  pub kstamp : S .state (c .old .stamp) ≢ InProgress
-  pub snap : S .info (spot c) ≡ c .infos (c .place) → S .cell (spot c) (c .field) ≡ c .old
+  pub old-ended : S .state (c .old .stamp) ≢ InProgress
+  pub snap : S .info (spot c) ≡ c .infos (c .written) → S .cell (spot c) (c .field) ≡ c .old
   pub no-info : (r : ℕ) → S .info r ≢ u
   pub no-infos : (i : ℕ) → i < c .n → c .infos i ≢ u
   pub no-old : c .old .stamp ≢ u

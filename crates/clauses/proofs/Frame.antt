@@ -9,8 +9,7 @@ use Rattle.clauses.proofs.Updates.{upd, upd-hit, upd-miss, at, same?, t
 use Rattle.rules.specs.Words.{Cell, InProgress}
 use Rattle.clauses.proofs.Memory.{Shared, apply}
 use Rattle.clauses.proofs.Memory.{Act, nop, hold, abort, freeze, close, write, commit, make}
-use Rattle.clauses.proofs.History.{Reading}
-use Rattle.clauses.proofs.History.{Ghost, note}
+use Rattle.clauses.proofs.History.{Ghost, Reading, note}
 use Rattle.clauses.proofs.Clauses.{Final, Snap, Anchor, Off, Guard}
 use Rattle.clauses.proofs.Rights.{st?, lost-frozen, lost-hap, lost-committed, hold-going, write-going, write-holds}
 
@@ -125,7 +124,8 @@ module _ (S : Shared) (G : Ghost) (t : ℕ) (k : Reading) where
   stay-open (abort x) g r h m = m
   stay-open (freeze x) g r h m = m
   stay-open (close x i) g r h m = at (λ y. y ≡ false) (S .mark) _ _ r
-      (λ e. let ended : S .state x ≢ InProgress = subst (λ a. S .state a ≢ InProgress) (ap (S .info) e ∙ g .ok .CLOSED (g .frozen) i (g .inside) (g .closes)) h in
+      (λ e. let ended : S .state x ≢ InProgress =
+      subst (λ a. S .state a ≢ InProgress) (ap (S .info) e ∙ g .ok .CLOSED (g .frozen) i (g .inside) (g .closes)) h in
       ⊎-elim (λ q. absurd (ended q)) (⊎-elim (λ c. tf (ap (S .mark) e ∙ g .ok .HAPPENED (g .ok .COMMITTED c) .1 i (g .inside) (g .closes)) m)
       (λ a. lost-frozen S G x (g .ok) (g .ok .ABORTED a) (g .frozen))) (st? (S .state x))) (λ n. m)
   stay-open (write x) g r h m = m
@@ -133,16 +133,16 @@ module _ (S : Shared) (G : Ghost) (t : ℕ) (k : Reading) where
   stay-open (make x c) g r h m = m
 
   -- an info that is some change's is never the dummy's again
-  pub stay-held-by : (b : Act) → Guard S G t b → (r : ℕ) → S .info r ≢ 0 → apply b S .info r ≢ 0
+  pub stay-nonzero : (b : Act) → Guard S G t b → (r : ℕ) → S .info r ≢ 0 → apply b S .info r ≢ 0
   unfolding apply
-  stay-held-by nop g r h = h
-  stay-held-by (hold x i) g r h = at (λ z. z ≢ 0) (S .info) _ _ r (λ e. g .nonzero) (λ n. h)
-  stay-held-by (abort x) g r h = h
-  stay-held-by (freeze x) g r h = h
-  stay-held-by (close x i) g r h = h
-  stay-held-by (write x) g r h = h
-  stay-held-by (commit x) g r h = h
-  stay-held-by (make x c) g r h = h
+  stay-nonzero nop g r h = h
+  stay-nonzero (hold x i) g r h = at (λ z. z ≢ 0) (S .info) _ _ r (λ e. g .nonzero) (λ n. h)
+  stay-nonzero (abort x) g r h = h
+  stay-nonzero (freeze x) g r h = h
+  stay-nonzero (close x i) g r h = h
+  stay-nonzero (write x) g r h = h
+  stay-nonzero (commit x) g r h = h
+  stay-nonzero (make x c) g r h = h
 
   -- while the info is one kept for a comparison, the cells stay and nobody takes effect on the record
   pub stay-cell : (b : Act) → Guard S G t b → (r a f : ℕ) → S .state a ≢ InProgress → S .info r ≡ a → apply b S .cell r f ≡ S .cell r f
@@ -154,7 +154,7 @@ module _ (S : Shared) (G : Ghost) (t : ℕ) (k : Reading) where
   stay-cell (close x i) g r a f h e = refl
   stay-cell (write x) g r a f h e = at (λ (row : ℕ → Cell). row f ≡ S .cell r f) (S .cell) _ _ r
       (λ q. absurd (h (subst (λ z. S .state z ≡ InProgress)
-      (sym (write-holds S G t x g (S .terms x .place) (g .ok .SHAPE .1)) ∙ sym (ap (S .info) q) ∙ e) (write-going S G t x g)))) (λ n. refl)
+      (sym (write-holds S G t x g (S .terms x .written) (g .ok .SHAPE .1)) ∙ sym (ap (S .info) q) ∙ e) (write-going S G t x g)))) (λ n. refl)
   stay-cell (commit x) g r a f h e = refl
   stay-cell (make x c) g r a f h e = refl
 
@@ -171,19 +171,22 @@ module _ (S : Shared) (G : Ghost) (t : ℕ) (k : Reading) where
   stay-eff (commit x) g r a h e = refl
   stay-eff (make x c) g r a h e = refl
 
+  -- an H1 of x at place i sets the info of r
+  abbrev pub Took : Act → ℕ → Type 0
+  Took b r = (x i : ℕ) × (b ≡ hold x i) × (S .terms x .rec i ≡ r) × (note t b k S G .took r ≡ suc (G .now)) × (apply b S .info r ≡ x)
+
   -- the last hold of a record: as it was, or now
-  pub took-now : (b : Act) (r : ℕ) → ((note t b k S G .took r ≡ G .took r) × (apply b S .info r ≡ S .info r))
-      ⊎ (note t b k S G .took r ≡ suc (G .now))
+  pub took-back : (b : Act) (r : ℕ) → ((note t b k S G .took r ≡ G .took r) × (apply b S .info r ≡ S .info r)) ⊎ Took b r
   unfolding note apply
-  took-now nop r = inl (refl, refl)
-  took-now (hold x i) r = ⊎-elim (λ (e : r ≡ S .terms x .rec i). inr (upd-hit (G .took) _ _ e))
+  took-back nop r = inl (refl, refl)
+  took-back (hold x i) r = ⊎-elim (λ (e : r ≡ S .terms x .rec i). inr (x, i, refl, sym e, upd-hit (G .took) _ _ e, upd-hit (S .info) _ _ e))
       (λ n. inl (upd-miss (G .took) _ _ n, upd-miss (S .info) _ _ n)) (same? r (S .terms x .rec i))
-  took-now (abort x) r = inl (refl, refl)
-  took-now (freeze x) r = inl (refl, refl)
-  took-now (close x i) r = inl (refl, refl)
-  took-now (write x) r = inl (refl, refl)
-  took-now (commit x) r = inl (refl, refl)
-  took-now (make x c) r = inl (refl, refl)
+  took-back (abort x) r = inl (refl, refl)
+  took-back (freeze x) r = inl (refl, refl)
+  took-back (close x i) r = inl (refl, refl)
+  took-back (write x) r = inl (refl, refl)
+  took-back (commit x) r = inl (refl, refl)
+  took-back (make x c) r = inl (refl, refl)
 
   pub stay-took : (b : Act) → Guard S G t b → (r a : ℕ) → S .state a ≢ InProgress → apply b S .info r ≡ a
       → note t b k S G .took r ≡ G .took r
@@ -210,7 +213,7 @@ module _ (S : Shared) (G : Ghost) (t : ℕ) (k : Reading) where
         rw (stay-took b g r a h i, stay-eff b g r a h j) (A .CLEAR j);
     TAKEN = λ n. ⊎-elim (λ (z : (note t b k S G .took r ≡ G .took r) × (apply b S .info r ≡ S .info r)). rw (z .0)
         (A .TAKEN (λ q. n (z .1 ∙ q))))
-        (λ (z : note t b k S G .took r ≡ suc (G .now)). omega (arith, z, A .PAST)) (took-now b r);
+        (λ (z : Took b r). omega (arith, z .4, A .PAST)) (took-back b r);
     PAST = omega (arith, A .PAST, now-suc b);
   }
 

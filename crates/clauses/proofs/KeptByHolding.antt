@@ -40,9 +40,9 @@ module _ (S : Shared) (G : Ghost) (t : ℕ) (k : Reading) where
     SHAPE = O .SHAPE;
     ANCHORS = anchors S G t k (hold x i) g u O o;
     OLD-ENDED = O .OLD-ENDED;
-    SNAP = λ z. at (λ y. (y ≡ c .infos (c .place)) ⊎ (y ≡ u) → S .cell (spot c) (c .field) ≡ c .old) (S .info) _ _ (spot c)
-        (λ e. ⊎-elim (λ q. absurd (other (c .place) (O .SHAPE .1) q))
-        (λ (q : x ≡ u). O .SNAP z (inl (at-own x i g u O q (c .place) (O .SHAPE .1) e .1)))) (λ n. O .SNAP z);
+    SNAP = λ z. at (λ y. (y ≡ c .infos (c .written)) ⊎ (y ≡ u) → S .cell (spot c) (c .field) ≡ c .old) (S .info) _ _ (spot c)
+        (λ e. ⊎-elim (λ q. absurd (other (c .written) (O .SHAPE .1) q))
+        (λ (q : x ≡ u). O .SNAP z (inl (at-own x i g u O q (c .written) (O .SHAPE .1) e .1)))) (λ n. O .SNAP z);
     GONE = λ j h z. at (λ y. y ≢ c .infos j) (S .info) _ _ (c .rec j) (λ e q. other j h q)
         (λ n. O .GONE j h (⊎-elim (λ (w : (u ≡ x) × (j ≡ i)). absurd (n (rw (w .0, w .1) refl))) (λ w. w) (held-back x i u j z)));
     HELD = λ j h. at (λ y. y ≡ u → upd (G .held) x (upd (G .held x) i true) u j ≡ true) (S .info) _ _ (c .rec j)

@@ -22,8 +22,7 @@ module _ (S : Shared) (G : Ghost) (t : ℕ) (k : Reading) where
     upd-miss (S .frozen) x false (o .0),
     upd-miss (G .hap) x false (o .0),
     upd-miss (G .held) x (λ i. false) (o .0),
-    upd-miss (G .since) x
-        (λ i. G .read t (d .rec i)) (o .0),
+    upd-miss (G .since) x (λ i. G .read t (d .rec i)) (o .0),
   ) others
     where
       others : Ok (S .terms u) (S .state u) (S .frozen u) (G .hap u) (G .held u) (G .since u) (apply (make x d) S) (note t (make x d) k S G) u
@@ -35,12 +34,10 @@ module _ (S : Shared) (G : Ghost) (t : ℕ) (k : Reading) where
   made-ok x d g = rw (
     upd-hit (S .terms) x d {j = x} refl,
     upd-hit (S .state) x InProgress {j = x} refl,
-    upd-hit (S .frozen) x false {j = x}
-        refl,
+    upd-hit (S .frozen) x false {j = x} refl,
     upd-hit (G .hap) x false {j = x} refl,
     upd-hit (G .held) x (λ i. false) {j = x} refl,
-    upd-hit (G .since) x
-        (λ i. G .read t (d .rec i)) {j = x} refl,
+    upd-hit (G .since) x (λ i. G .read t (d .rec i)) {j = x} refl,
   ) new
     where
       new : Ok d InProgress false false (λ i. false) (λ i. G .read t (d .rec i)) (apply (make x d) S) (note t (make x d) k S G) x
@@ -48,7 +45,7 @@ module _ (S : Shared) (G : Ghost) (t : ℕ) (k : Reading) where
         APART = g .apart;
         SHAPE = g .shape;
         ANCHORS = λ i h. stay-anchor S G t k (make x d) g _ _ _ (g .no-infos i h) (g .anchors i h);
-        OLD-ENDED = stay-ended S G t k (make x d) g _ (g .no-old) (g .kstamp);
+        OLD-ENDED = stay-ended S G t k (make x d) g _ (g .no-old) (g .old-ended);
         SNAP = λ z. ⊎-elim (g .snap) (λ q. absurd (g .no-info _ q));
         GONE = λ i h z. tf z refl;
         HELD = λ i h q. absurd (g .no-info _ q);

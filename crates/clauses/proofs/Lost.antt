@@ -11,7 +11,7 @@ use Rattle.clauses.proofs.Clauses.{OkOf, LostOf, Off, Guard}
 use Rattle.clauses.proofs.Frame.{same-terms, stay-held, no-return}
 
 module _ (S : Shared) (G : Ghost) (t : ℕ) (k : Reading) where
-  -- a record lost before it was held stays lost
+  -- a place that another took was not held, and is not
   stay-unheld : (b : Act) → Guard S G t b → (u j : ℕ) → Off b u → S .info (S .terms u .rec j) ≢ S .terms u .infos j → G .held u j ≡ false
       → note t b k S G .held u j ≡ false
   unfolding note

@@ -10,7 +10,7 @@ pub record Terms : Type 0 where
   pub n : ℕ
   pub rec : ℕ → ℕ
   pub closes : ℕ → Bool
-  pub place : ℕ
+  pub written : ℕ
   pub field : ℕ
   pub new : ℕ
   pub old : Cell
@@ -18,7 +18,7 @@ pub record Terms : Type 0 where
 
 -- the record whose field it writes
 abbrev pub spot : Terms → ℕ
-spot c = c .rec (c .place)
+spot c = c .rec (c .written)
 
 -- the shared words, and the changes' terms
 pub record Shared : Type 0 where

@@ -14,10 +14,10 @@ use Rattle.clauses.proofs.Updates.{at, at-all}
 use Rattle.clauses.proofs.Memory.{Shared, spot, apply}
 use Rattle.clauses.proofs.Memory.{Act, nop, hold, abort, freeze, close, write, commit, make}
 use Rattle.clauses.proofs.History.{Ghost, Reading, note}
-use Rattle.clauses.proofs.Clauses.{HeldTo, MarkedTo, OkOf, Off, Guard, At, LinkOk}
+use Rattle.clauses.proofs.Clauses.{HeldTo, MarkedTo, OkOf, Off, Guard, At, LinkOk, Stamped}
 use Rattle.clauses.proofs.Rights.{CI, write-holds}
-use Rattle.clauses.proofs.Frame.{stay-held-by, same-terms, stay-mark, stay-frozen, stay-hap, stay-held, stay-state, stay-ended, stay-final}
-use Rattle.clauses.proofs.Frame.{stay-anchor, stay-snap, took-now, now-suc}
+use Rattle.clauses.proofs.Frame.{stay-nonzero, same-terms, stay-mark, stay-frozen, stay-hap, stay-held, stay-state, stay-ended, stay-final}
+use Rattle.clauses.proofs.Frame.{stay-anchor, stay-snap, Took, took-back, now-suc}
 use Rattle.clauses.proofs.Lost.{stay-gone, stay-lost}
 
 -- no number that a link keeps is the one that the act takes
@@ -51,8 +51,8 @@ module _ (S : Shared) (G : Ghost) (t : ℕ) (k : Reading) (b : Act) (g : Guard S
   stay cs (L7 r m1 a) o K h = tt
   stay cs (L8 r m1 a) o K h = tt
   stay cs (L9 r) o K h = tt
-  stay cs (L10 r a) o K h = λ z. stay-held-by S G t k b g r (h z)
-  stay cs (L11 r) o K h = stay-held-by S G t k b g r h
+  stay cs (L10 r a) o K h = λ z. stay-nonzero S G t k b g r (h z)
+  stay cs (L11 r) o K h = stay-nonzero S G t k b g r h
   stay cs (H1 u i after) o K h = rw (same-terms S G t k b u o) (h .0, h .1, held u i o (h .2))
   stay cs (H2 u i after) o K h =
       rw (same-terms S G t k b u o) (h .0, h .1, held u i o (h .2), stay-gone S G t k b g u (K (h .0)) i (h .1) (h .3))
@@ -69,10 +69,6 @@ module _ (S : Shared) (G : Ghost) (t : ℕ) (k : Reading) (b : Act) (g : Guard S
   stay cs (H8 u after) o K h = (h .0, stay-hap S G t k b u o (h .1))
   stay cs (Vlx n i) o K h = h
   stay cs (Read r f) o K h = tt
-
--- STAMP
-abbrev pub Stamped : Shared → ℕ → ℕ → Type 0
-Stamped S r f = (S .cell r f .stamp ≡ S .info r) ⊎ (S .state (S .cell r f .stamp) ≢ InProgress)
 
 module _ (S : Shared) (G : Ghost) (t : ℕ) (k : Reading) where
   pub stay-stamp : (b : Act) → Guard S G t b → (r f : ℕ) → Off b (S .cell r f .stamp) → Stamped S r f → Stamped (apply b S) r f
@@ -97,7 +93,7 @@ module _ (S : Shared) (G : Ghost) (t : ℕ) (k : Reading) where
   pub took-past : (b : Act) (r : ℕ) → G .took r ≤ G .now → note t b k S G .took r ≤ note t b k S G .now
   took-past b r h = ⊎-elim (λ (z : (note t b k S G .took r ≡ G .took r) × (apply b S .info r ≡ S .info r)). omega
       (arith, z .0, now-suc S G t k b))
-      (λ (z : note t b k S G .took r ≡ suc (G .now)). omega (arith, z, now-suc S G t k b)) (took-now S G t k b r)
+      (λ (z : Took S G t k b r). omega (arith, z .4, now-suc S G t k b)) (took-back S G t k b r)
 
   pub eff-past : (b : Act) (r : ℕ) → G .eff r ≤ G .now → note t b k S G .eff r ≤ note t b k S G .now
   unfolding note

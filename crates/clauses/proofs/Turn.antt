@@ -3,14 +3,14 @@ use Prim.Native.Nat.{ℕ, suc}
 use mathlib.Core.Path.{_≡_, refl, sym, ap, _∙_, subst}
 use mathlib.Core.Bool.{Bool, true, false, true≢false}
 use mathlib.Core.Logic.{_⊎_, inl, inr, _≢_, ⊎-elim}
-use Rattle.rules.specs.Words.{InProgress, Aborted, Link}
+use Rattle.rules.specs.Words.{Aborted, Link}
 use Rattle.table.specs.Table.{pick}
 use Rattle.rules.specs.Access.{changeOf}
 use Rattle.clauses.proofs.Updates.{upd, upd-hit, upd-miss, at, same?}
 use Rattle.clauses.proofs.Memory.{Terms, Shared, Table, apply}
 use Rattle.clauses.proofs.Memory.{Act, nop, hold, abort, freeze, close, write, commit, make}
 use Rattle.clauses.proofs.History.{Ghost, Reading, read-by, note}
-use Rattle.clauses.proofs.Clauses.{OkOf, Off, Guard, At, LinkOk, Live, Fresh, NotIn, Room, Fine}
+use Rattle.clauses.proofs.Clauses.{OkOf, Off, Guard, At, LinkOk, Stamped, Live, Fresh, NotIn, Room, Fine}
 use Rattle.clauses.proofs.Rights.{AI}
 use Rattle.clauses.proofs.Frame.{stay-state}
 use Rattle.clauses.proofs.Spared.{Spared}
@@ -143,7 +143,7 @@ module _ (X Y : Table) (G : Ghost) (F : Fine X G) (t : ℕ) (b : Act) (k : Readi
     ZERO = subst (λ (S : Shared). S .state 0 ≡ Aborted) (sym (T .shared))
         (stay-state S G t k b (T .guard) 0 (off X b (T .room) 0 (λ x N e. N .nonzero (sym e))) (λ q. AI (F .ZERO) q) ∙ F .ZERO);
     PAST = λ r. (took-past S G t k b r (F .PAST r .0), eff-past S G t k b r (F .PAST r .1));
-    STAMP = λ r f l. subst (λ (S : Shared). (S .cell r f .stamp ≡ S .info r) ⊎ (S .state (S .cell r f .stamp) ≢ InProgress)) (sym (T .shared))
+    STAMP = λ r f l. subst (λ (S : Shared). Stamped S r f) (sym (T .shared))
         (stay-stamp S G t k b (T .guard) r f (off X b (T .room) _ (λ x N. N .no-stamp r f l)) (F .STAMP r f l));
     CHANGES = changes;
     PLACES = λ s. subst (λ (S : Shared). At S G′ (Y .task s .cells) (Y .task s .place)) (sym (T .shared)) (⊎-elim
