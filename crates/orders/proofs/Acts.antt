@@ -8,7 +8,7 @@ use lib.ListN.{getD, set, length}
 use lib.Seq.{getD-set-same, getD-set-other, set-getD}
 use lib.Dec.{eqb}
 use borrow.Author.Tests.{ne-eqb}
-use Rattle.rules.specs.Words.{Cell, Record, State, InProgress, Committed, Aborted, Change}
+use Rattle.rules.specs.Words.{Cell, Record, InProgress, Change}
 use Rattle.rules.specs.Words.{Access, Hold, Close, Write, Freeze, Abort, Commit}
 use Rattle.table.specs.Table.{pick, noCell, noRecord, noChange, cellAt, stateOf, sameCell}
 use Rattle.rules.specs.Access.{recordOf, changeIn}
@@ -17,22 +17,6 @@ use Rattle.clauses.proofs.Updates.{upd, at}
 use Rattle.clauses.proofs.Memory.{Shared, nop, hold, abort, freeze, close, write, commit, make, apply}
 use Rattle.clauses.proofs.Steps.{termsOf, is-stored, is-old}
 use Rattle.orders.proofs.Stored.{sharedIn, alike, entry-is, shows, hides, shows-in, hides-in}
-
--- a change with its state set
-abbrev with-state : State → Change → Change
-with-state s x =
-    record {
-      n = x .n;
-      v = x .v;
-      r = x .r;
-      written = x .written;
-      field = x .field;
-      new = x .new;
-      old = x .old;
-      state = s;
-      frozen = x .frozen;
-      infos = x .infos;
-    }
 
 module _ (n : ℕ) (rs : List Record) (cs : List Change) where
   abbrev S : Shared
@@ -132,21 +116,21 @@ module _ (n : ℕ) (rs : List Record) (cs : List Change) where
           (λ e. rw (e, getD-set-same cs u y noChange h, ne-eqb u 0 (λ z. omega arith)) refl)
           (λ ne. ap (stateOf j) (getD-set-other cs u j y noChange ne))
 
-      set-state : (s : State) → sharedIn n (set rs 0 (getD rs 0 noRecord)) (set cs u (with-state s ch))
-          ≡ record { terms = S .terms; state = upd (S .state) u s; frozen = S .frozen; info = S .info; mark = S .mark; cell = S .cell }
-      set-state s =
-          let y : Change = with-state s ch in
+      -- y is the change with another state
+      set-state : (y : Change) → termsOf y ≡ termsOf ch → y .frozen ≡ ch .frozen → sharedIn n (set rs 0 (getD rs 0 noRecord)) (set cs u y)
+          ≡ record { terms = S .terms; state = upd (S .state) u (y .state); frozen = S .frozen; info = S .info; mark = S .mark; cell = S .cell }
+      set-state y et ef =
           changes-only (set cs u y) 0
-          ∙ alike _ _ (λ k j. hides termsOf cs u y noChange refl j k) (λ k j. states y j k)
-          (λ k j. hides (λ (z : Change). z .frozen) cs u y noChange refl j k) refl refl refl
+          ∙ alike _ _ (λ k j. hides termsOf cs u y noChange et j k) (λ k j. states y j k)
+          (λ k j. hides (λ (z : Change). z .frozen) cs u y noChange ef j k) refl refl refl
 
       pub aborts : afterwards (Abort u) ≡ apply (abort u) S
       unfolding apply
-      aborts = set-state Aborted
+      aborts = set-state (changeBy (Abort u) ch) refl refl
 
       pub commits : afterwards (Commit u) ≡ apply (commit u) S
       unfolding apply
-      commits = set-state Committed
+      commits = set-state (changeBy (Commit u) ch) refl refl
 
       pub freezes : afterwards (Freeze u) ≡ apply (freeze u) S
       unfolding apply

@@ -130,34 +130,34 @@ either : (b : Bool) (v w : Move) → v .store ≡ false → w .store ≡ false �
 either true v w h k = h
 either false v w h k = k
 
-pub stores : (q : Place) (s : Seen) (ch : Change) (linked : ℕ) → Stores q (resume q s ch linked)
-stores Idle s ch linked = never refl
-stores (L1 r) s ch linked = never refl
-stores (L2 r m1) s ch linked = never refl
-stores (L3 r m1 a) s ch linked = never refl
-stores (L4 r m1 a x) s ch linked = never refl
-stores (L5 r m1 a f) s ch linked = never refl
-stores (L6 r m1 a) s ch linked = go (eqb (s .number) a)
+pub stored-at-l6 : (q : Place) (s : Seen) (ch : Change) (linked : ℕ) → Stores q (resume q s ch linked)
+stored-at-l6 Idle s ch linked = never refl
+stored-at-l6 (L1 r) s ch linked = never refl
+stored-at-l6 (L2 r m1) s ch linked = never refl
+stored-at-l6 (L3 r m1 a) s ch linked = never refl
+stored-at-l6 (L4 r m1 a x) s ch linked = never refl
+stored-at-l6 (L5 r m1 a f) s ch linked = never refl
+stored-at-l6 (L6 r m1 a) s ch linked = go (eqb (s .number) a)
   where
     go : (b : Bool) → Stores (L6 r m1 a) (pick b snapshot (on (L7 r m1 a)))
     go true h = (r, m1, a, refl, refl)
     go false h = absurd (false≢true h)
-stores (L7 r m1 a) s ch linked = never (store-l7 r m1 a (s .state))
-stores (L8 r m1 a) s ch linked = never refl
-stores (L9 r) s ch linked = never refl
-stores (L10 r b) s ch linked = never (store-l10 r (s .state))
-stores (L11 r) s ch linked = never (either (eqb (s .number) 0) (done Fail) (on (H1 (s .number) 0 AtL11)) refl refl)
-stores (H1 u i after) s ch linked = never refl
-stores (H2 u i after) s ch linked = never refl
-stores (H3 u after) s ch linked = never (either (s .bit) (verdict true after) (on (H4 u after)) (store-verdict true after) refl)
-stores (H4 u after) s ch linked = never (store-verdict false after)
-stores (H5 u after) s ch linked = never refl
-stores (H6 u i after) s ch linked = never refl
-stores (H7 u after) s ch linked = never refl
-stores (H8 u after) s ch linked = never (store-verdict true after)
-stores (Vlx n i) s ch linked = never (either (eqb (s .number) linked) (pick (ltb (i + 1) n) (on (Vlx n (i + 1))) (done Yes)) (noAndDrop n)
+stored-at-l6 (L7 r m1 a) s ch linked = never (store-l7 r m1 a (s .state))
+stored-at-l6 (L8 r m1 a) s ch linked = never refl
+stored-at-l6 (L9 r) s ch linked = never refl
+stored-at-l6 (L10 r b) s ch linked = never (store-l10 r (s .state))
+stored-at-l6 (L11 r) s ch linked = never (either (eqb (s .number) 0) (done Fail) (on (H1 (s .number) 0 AtL11)) refl refl)
+stored-at-l6 (H1 u i after) s ch linked = never refl
+stored-at-l6 (H2 u i after) s ch linked = never refl
+stored-at-l6 (H3 u after) s ch linked = never (either (s .bit) (verdict true after) (on (H4 u after)) (store-verdict true after) refl)
+stored-at-l6 (H4 u after) s ch linked = never (store-verdict false after)
+stored-at-l6 (H5 u after) s ch linked = never refl
+stored-at-l6 (H6 u i after) s ch linked = never refl
+stored-at-l6 (H7 u after) s ch linked = never refl
+stored-at-l6 (H8 u after) s ch linked = never (store-verdict true after)
+stored-at-l6 (Vlx n i) s ch linked = never (either (eqb (s .number) linked) (pick (ltb (i + 1) n) (on (Vlx n (i + 1))) (done Yes)) (noAndDrop n)
     (either (ltb (i + 1) n) (on (Vlx n (i + 1))) (done Yes) refl refl) refl)
-stores (Read r f) s ch linked = never refl
+stored-at-l6 (Read r f) s ch linked = never refl
 
 module _ (m : Machine) (e : Call) where
   abbrev pub Snapped : Type 0
@@ -170,10 +170,18 @@ module _ (m : Machine) (e : Call) where
     where
       stepped : Passes m e AskStep → moveAt m (e .task) .store ≡ true → Snapped
       stepped P h =
-          let q = taskAt m (e .task) .place in
-          let (r, m1, a, l6, v) = stores q (seen (accessAt m (e .task)) m) (changeAt m (changeOf q)) (linkAt m (e .task) (recordOf (accessAt m (e .task))) .info) h in (
+          let x = taskAt m (e .task) in
+          let a = accessAt m (e .task) in
+          let (r, m1, b, l6, v) = stored-at-l6 (x .place) (seen a m) (changeAt m (changeOf (x .place))) (linkAt m (e .task) (recordOf a) .info) h in (
             P,
-            (r, m1, a, l6, ap (λ (k : Reading). k .at) (reading-is m e AskStep P) ∙ ap (λ q. recordOf (accessOf q (changeAt m (changeOf q)) (taskAt m (e .task) .list))) l6),
+            (
+              r,
+              m1,
+              b,
+              l6,
+              ap (λ (k : Reading). k .at) (reading-is m e AskStep P)
+                  ∙ ap (λ q. recordOf (accessOf q (changeAt m (changeOf q)) (x .list))) l6,
+            ),
             ap (λ (o : Out). o .answer) (next-is m e AskStep P) ∙ ap (λ (v : Move). v .answer) v,
           )
 

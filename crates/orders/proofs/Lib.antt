@@ -5,9 +5,9 @@ pub mod Acts
 pub mod Shares
 pub mod Frames
 pub mod Seen
-pub mod Linked
 pub mod Settled
 pub mod Calls
+pub mod Linked
 pub mod Finishes
 pub mod Run
 pub mod Turns
