@@ -23,7 +23,7 @@ use Rattle.clauses.proofs.Course.{Course, X, S, turn}
 use Rattle.orders.specs.Demand.{before, place, Steps, Starts}
 use Rattle.orders.proofs.View.{recordIn}
 use Rattle.orders.proofs.Seen.{saw}
-use Rattle.orders.proofs.Calls.{Passes, accepts}
+use Rattle.orders.proofs.Calls.{Passes}
 use Rattle.orders.proofs.Busy.{idle-or, own-call, own-step}
 use Rattle.orders.proofs.Run.{Run, course, inside, task-is}
 use Rattle.orders.proofs.Effects.{is-in, passed-steps, act-is}
@@ -44,15 +44,12 @@ busy-is q n = ⊎-elim (λ e. absurd (n e)) (λ h. h) (idle-or q)
 pub not-taken : (C : Course) (k u : ℕ) → (u ≢ 0 → Live (X C k) u) → Off (C .act k) u
 not-taken C k u l = off (X C k) (C .act k) (turn C k .room) u (λ x N e. N .dead (subst (λ u. Live (X C k) u) e (l (λ z. N .nonzero (sym e ∙ z)))))
 
--- an accepted start passes, and its task stands where such a start leads
-module _ (m : Machine) (calls : ℕ → Call) (R : Run m calls) (s t : ℕ) (ask : Ask) (B : Starts next m calls s t ask) where
-  pub passes : Passes (before next m calls s) (calls s) ask
-  passes = record { passed = accepts (before next m calls s) (calls s) (B .accepted); asks = ap (λ (e : Call). e .ask) (B .asks) }
-
-  pub begun : (q : Place) → calls s .task < before next m calls s .p → taskAt (before next m calls (suc s)) (calls s .task) .place ≡ q
-      → (t < m .p) × (place next m calls (suc s) t ≡ q)
-  begun q l e = subst (λ t. (t < m .p) × (place next m calls (suc s) t ≡ q)) (ap (λ (e : Call). e .task) (B .asks))
-      (subst (λ p. calls s .task < p) (R .same-p s) l, e)
+-- where an accepted start leads, there its task stands
+pub begun : (m : Machine) (calls : ℕ → Call) → Run m calls → (s t : ℕ) (ask : Ask) → Starts next m calls s t ask → (q : Place)
+    → calls s .task < before next m calls s .p → taskAt (before next m calls (suc s)) (calls s .task) .place ≡ q
+    → (t < m .p) × (place next m calls (suc s) t ≡ q)
+begun m calls R s t ask B q l e = subst (λ t. (t < m .p) × (place next m calls (suc s) t ≡ q)) (ap (λ (e : Call). e .task) (B .asks))
+    (subst (λ p. calls s .task < p) (R .same-p s) l, e)
 
 module _ (m : Machine) (calls : ℕ → Call) (R : Run m calls) (t : ℕ) (tl : t < m .p) (k : ℕ) where
   abbrev M : ℕ → Machine

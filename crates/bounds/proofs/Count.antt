@@ -18,6 +18,7 @@ use Rattle.clauses.proofs.Memory.{Shared, apply}
 use Rattle.clauses.proofs.Steps.{termsOf, actAt, Saw}
 use Rattle.clauses.proofs.Course.{Course, S}
 use Rattle.orders.specs.Demand.{before, said, place, Going}
+use Rattle.orders.proofs.Busy.{longer}
 use Rattle.orders.proofs.Run.{Run, course}
 use Rattle.orders.proofs.Working.{moved}
 use Rattle.bounds.specs.Bounds.{stepOf, own}
@@ -62,13 +63,7 @@ module _ (m : Machine) (calls : ℕ → Call) (R : Run m calls) (s t : ℕ) (tl 
   busy-at : (k : ℕ) → Mine k → at k ≢ Idle
   busy-at k g = g .busy k (g .later) (le-refl k)
 
-  -- in progress before call k: in progress before the next, if still busy, and the other way round
-  longer : (k : ℕ) → Mine k → at (suc k) ≢ Idle → Mine (suc k)
-  longer k g b = record {
-    later = omega (arith, g .later);
-    busy = λ j a l. ⊎-elim (λ (e : j ≡ suc k). rw e b) (λ n. g .busy j a (omega arith)) (same? j (suc k));
-  }
-
+  -- in progress before the next call: in progress before this one
   sooner : (k : ℕ) → s < k → Mine (suc k) → Mine k
   sooner k h g = record { later = h; busy = λ j a b. g .busy j a (omega arith) }
 
@@ -116,8 +111,8 @@ module _ (m : Machine) (calls : ℕ → Call) (R : Run m calls) (s t : ℕ) (tl 
       going : (k : ℕ) → Mine k → ToCome k → Tally (suc k)
       going k g (n, q, e) = either-way k
           (λ y. ⊎-elim (λ (z : Last k n). inr (omega (arith, own-one k (g .later) y, z .0)))
-          (λ (z : Fewer k n). inl (longer k g (not-idle _ _ (z .0) (z .2)))) (fall k n g q y))
-          (λ y. inl (longer k g (λ i. busy-at k g (sym (still m calls R t tl k (busy-at k g) y) ∙ i))))
+          (λ (z : Fewer k n). inl (longer next m calls s t k g (not-idle _ _ (z .0) (z .2)))) (fall k n g q y))
+          (λ y. inl (longer next m calls s t k g (λ i. busy-at k g (sym (still m calls R t tl k (busy-at k g) y) ∙ i))))
 
       over : (k : ℕ) → s < k → N ≤ mine k → N ≤ mine (suc k)
       over k l h = either-way k (λ y. omega (arith, own-one k l y)) (λ y. omega (arith, own-same k y))

@@ -10,14 +10,15 @@ use Rattle.rules.specs.Words.{Answer, Accepted, Snapshot, Finalized, Fail, Yes,
 use Rattle.rules.specs.Refuse.{isIdle}
 use Rattle.rules.specs.Next.{next}
 use Rattle.keeps.proofs.Refused.{isAccepted, Plain, plain}
-use Rattle.clauses.proofs.Updates.{same?, leb-case, bool?, tf}
+use Rattle.clauses.proofs.Updates.{bool?, tf}
 use Rattle.orders.specs.Demand.{before, said, place, Steps, Going, Starts}
 use Rattle.orders.proofs.Calls.{Passes, obeyed}
-use Rattle.orders.proofs.Busy.{idle-or}
-use Rattle.orders.proofs.Run.{Run}
+use Rattle.orders.proofs.Busy.{idle-or, longer}
+use Rattle.orders.proofs.Run.{Run, busy-inside}
+use Rattle.orders.proofs.Changes.{start-passes}
 use Rattle.orders.proofs.Working.{moved}
 use Rattle.bounds.specs.Bounds.{isStep, stepOf}
-use Rattle.bounds.proofs.Along.{busy-is, passes, begun, resumes, steps, still}
+use Rattle.bounds.proofs.Along.{busy-is, begun, resumes, steps, still}
 
 accepted-is : (a : Answer) → isAccepted a ≡ true → a ≡ Accepted
 accepted-is Accepted h = refl
@@ -40,7 +41,7 @@ not-off false h = refl
 module _ (m : Machine) (calls : ℕ → Call) (R : Run m calls) where
   -- a start leaves its task at the first place of the operation
   pub begins : (s t : ℕ) (ask : Ask) → Starts next m calls s t ask → isStep ask ≡ false → Going next m calls s t (suc s)
-  begins s t ask B h = go ask B h (passes m calls R s t ask B)
+  begins s t ask B h = go ask B h (start-passes m calls R s t ask B)
     where
       at : (q : Place) → isIdle q ≡ false → place next m calls (suc s) t ≡ q → Going next m calls s t (suc s)
       at q b e = record {
@@ -49,7 +50,8 @@ module _ (m : Machine) (calls : ℕ → Call) (R : Run m calls) where
             tf (ap isIdle (sym e ∙ subst (λ j. place next m calls j t ≡ Idle) z i)) b;
       }
 
-      go : (ask : Ask) → Starts next m calls s t ask → isStep ask ≡ false → Passes (before next m calls s) (calls s) ask → Going next m calls s t (suc s)
+      go : (ask : Ask) → Starts next m calls s t ask → isStep ask ≡ false → Passes (before next m calls s) (calls s) ask
+          → Going next m calls s t (suc s)
       go (AskLlx r) B h P = at (L1 r) refl (begun m calls R s t _ B (L1 r) (obeyed _ _ _ P .0) (R .goes-to s (AskLlx r) P) .1)
       go (AskScx n r w f x) B h P = at _ refl (begun m calls R s t _ B _ (obeyed _ _ _ P .0) (R .goes-to s (AskScx n r w f x) P) .1)
       go (AskVlx n) B h P = at (Vlx n 0) refl (begun m calls R s t _ B (Vlx n 0) (obeyed _ _ _ P .0) (R .goes-to s (AskVlx n) P) .1)
@@ -70,13 +72,10 @@ module _ (m : Machine) (calls : ℕ → Call) (R : Run m calls) where
     busy = g .busy k (g .later) (le-refl k)
 
     tl : t < m .p
-    tl = ⊎-elim (λ h. absurd (busy (R .past k t h))) (λ l. l) (leb-case (m .p) t)
+    tl = busy-inside m calls R k t busy
 
-    longer : at (suc k) ≢ Idle → Going next m calls s t (suc k)
-    longer b = record {
-      later = omega (arith, g .later);
-      busy = λ j a l. ⊎-elim (λ (e : j ≡ suc k). rw e b) (λ n. g .busy j a (omega arith)) (same? j (suc k));
-    }
+    on : at (suc k) ≢ Idle → Going next m calls s t (suc k)
+    on = longer next m calls s t k g
 
     stepped : Steps next m calls k t → On ⊎ Over
     stepped P =
@@ -85,12 +84,12 @@ module _ (m : Machine) (calls : ℕ → Call) (R : Run m calls) where
         ⊎-elim
         (λ (i : at (suc k) ≡ Idle). inr (P, (λ e. tf (ap isAccepted (sym a ∙ e)) (not-off _ (sym (ap isIdle (sym q ∙ i)) ∙ v .ends))), i))
         (λ (b : isIdle (at (suc k)) ≡ false). inl (
-          longer (λ i. tf (ap isIdle i) b),
+          on (λ i. tf (ap isIdle i) b),
           λ h. a ∙ accepted-is _ (not-on _ (sym (ap isIdle (sym q) ∙ b) ∙ v .ends)),
         ))
         (idle-or (at (suc k)))
 
     pub ends : On ⊎ Over
     ends = ⊎-elim (λ (h : stepOf t (calls k) ≡ true). stepped (steps m calls R t tl k busy h))
-        (λ (h : stepOf t (calls k) ≡ false). inl (longer (λ i. busy (sym (still m calls R t tl k busy h) ∙ i)), λ y. tf y h))
+        (λ (h : stepOf t (calls k) ≡ false). inl (on (λ i. busy (sym (still m calls R t tl k busy h) ∙ i)), λ y. tf y h))
         (bool? (stepOf t (calls k)))

@@ -88,7 +88,8 @@ module _ (S : Shared) where
 
   after-vlx : (n i now linked : ℕ) → i < n → rank S (afterVlx n i now linked .place) < n - i
   unfolding rank
-  after-vlx n i now linked h = picked (λ v. rank S (v .place) < n - i) (eqb now linked) (pick (ltb (i + 1) n) (on (Vlx n (i + 1))) (done Yes)) (noAndDrop n)
+  after-vlx n i now linked h = picked (λ v. rank S (v .place) < n - i) (eqb now linked)
+      (pick (ltb (i + 1) n) (on (Vlx n (i + 1))) (done Yes)) (noAndDrop n)
       (λ e. picked (λ v. rank S (v .place) < n - i) (ltb (i + 1) n) (on (Vlx n (i + 1))) (done Yes)
       (λ q. omega (arith, ltb-true (i + 1) n q)) (λ q. omega arith))
       (λ e. omega arith)

@@ -17,13 +17,13 @@ use Rattle.orders.specs.Demand.{before, place, Going, Starts}
 use Rattle.orders.specs.Demand.{Change as Asked}
 use Rattle.orders.proofs.Calls.{Passes, obeyed}
 use Rattle.orders.proofs.Run.{Run, course, place-known, works-live}
-use Rattle.orders.proofs.Changes.{terms, makes}
+use Rattle.orders.proofs.Changes.{start-passes, terms, makes}
 use Rattle.orders.proofs.Untouched.{task-inside}
 use Rattle.bounds.specs.Bounds.{size, own}
 use Rattle.bounds.proofs.Marks.{all, all-bits}
 use Rattle.bounds.proofs.Rank.{rank, keeps}
 use Rattle.bounds.proofs.Lower.{lower}
-use Rattle.bounds.proofs.Along.{passes, begun, not-taken, resumes}
+use Rattle.bounds.proofs.Along.{begun, not-taken, resumes}
 use Rattle.bounds.proofs.Count.{at-most}
 
 rank-scx : (S : Shared) (u : ℕ) (c : Terms) → S .terms u ≡ c → rank S (H1 u 0 Own) ≡ 2 * c .n + all c + 3
@@ -62,7 +62,7 @@ module _ (m : Machine) (calls : ℕ → Call) (R : Run m calls) where
       → (Passes (M s) (calls s) ask → (calls s .task < M s .p) × (taskAt (M (suc s)) (calls s .task) .place ≡ q))
       → (k : ℕ) → Going next m calls s t k → own next m calls s t k < rank (S C (suc s)) q
   from-start s t ask B q h k g =
-      let P = passes m calls R s t ask B in
+      let P = start-passes m calls R s t ask B in
       let (l, e) = begun m calls R s t ask B q (h P .0) (h P .1) in
       subst (λ q. own next m calls s t k < rank (S C (suc s)) q) e (most t l s k g)
 
@@ -92,7 +92,7 @@ module _ (m : Machine) (calls : ℕ → Call) (R : Run m calls) where
   pub scx-most : (s t n r written field new k : ℕ) → Starts next m calls s t (AskScx n r written field new) → Going next m calls s t k
       → own next m calls s t k < 2 * n + size r + 3
   scx-most s t n r written field new k B g =
-      let P = passes m calls R s t _ B in
+      let P = start-passes m calls R s t _ B in
       of-change (record {
         start = s;
         task = t;

@@ -19,13 +19,14 @@ use Rattle.clauses.proofs.Steps.{actAt, Saw}
 use Rattle.clauses.proofs.Frame.{stay-ended, stay-open}
 use Rattle.clauses.proofs.Course.{Course, S, history, turn}
 use Rattle.orders.specs.Demand.{before, said, place, info, Going, Starts, Holds}
-use Rattle.orders.specs.Demand.{Change as Changed}
+use Rattle.orders.specs.Demand.{Change as Asked}
 use Rattle.orders.proofs.Calls.{Passes, did-is, obeyed}
 use Rattle.orders.proofs.Run.{Run, course}
+use Rattle.orders.proofs.Changes.{start-passes}
 use Rattle.orders.proofs.Effects.{is-in}
 use Rattle.orders.proofs.Holders.{by-a-hold, nobody-holds, is-open}
 use Rattle.bounds.specs.Bounds.{stepOf, own, UndisturbedLlx}
-use Rattle.bounds.proofs.Along.{passes, begun, not-taken, left-in}
+use Rattle.bounds.proofs.Along.{begun, not-taken, left-in}
 use Rattle.bounds.proofs.Count.{Down, exactly}
 
 -- r is open, its info is a, and nobody holds it
@@ -91,7 +92,7 @@ module _ (m : Machine) (calls : ℕ → Call) (R : Run m calls) (s t r K : ℕ) 
   Q = Llx r a
 
   P : Passes (M s) (calls s) (AskLlx r)
-  P = passes m calls R s t (AskLlx r) B
+  P = start-passes m calls R s t (AskLlx r) B
 
   start : (t < m .p) × (at (suc s) ≡ L1 r)
   start = begun m calls R s t (AskLlx r) B (L1 r) (obeyed (M s) (calls s) _ P .0) (R .goes-to s (AskLlx r) P)
@@ -124,7 +125,8 @@ module _ (m : Machine) (calls : ℕ → Call) (R : Run m calls) (s t r K : ℕ) 
           ap (λ (Z : Shared). Z .mark r) (turn C k .shared) ∙ stay-open (S C k) (history C k) (C .who k) (C .reads k) (C .act k) (turn C k .guard) r
               (subst (λ a. S C k .state a ≢ InProgress) (sym (f .1)) (f .2)) (f .0),
           left-in m calls R t tl k b (λ x. x .info) r rl h (λ o. ⊎-elim (λ e. e)
-              (λ (d : (d : Changed next m calls) × Holds next m calls d k r). absurd (U .since-start (d .0) k (g .later) c o (d .1))) (by-a-hold m calls R k r rl)) ∙ f .1,
+              (λ (d : (d : Asked next m calls) × Holds next m calls d k r). absurd (U .since-start (d .0) k (g .later) c o (d .1)))
+              (by-a-hold m calls R k r rl)) ∙ f .1,
           subst (λ (Z : Shared). Z .state a ≢ InProgress) (sym (turn C k .shared))
               (stay-ended (S C k) (history C k) (C .who k) (C .reads k) (C .act k) (turn C k .guard) a
               (not-taken C k a (λ z. (z, inl (r, f .1)))) (f .2)),

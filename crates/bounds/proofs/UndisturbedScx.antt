@@ -163,7 +163,8 @@ module _ (m : Machine) (calls : ℕ → Call) (R : Run m calls) (c : Asked next 
   pub scx-takes : (s < K → Going next m calls s t K ↔ own next m calls s t K < c .n + size (c .closing) + 3)
       × (Going next m calls s t K → at (suc K) ≡ Idle → said next m calls K ≡ Yes)
   scx-takes = subst (λ f. (s < K → Going next m calls s t K ↔ own next m calls s t K < c .n + f + 3)
-      × (Going next m calls s t K → at (suc K) ≡ Idle → said next m calls K ≡ Yes)) (all-bits (c .closing)) (exactly m calls R s t tl (Scx T u) Yes K (c .n + all T + 3) first
+      × (Going next m calls s t K → at (suc K) ≡ Idle → said next m calls K ≡ Yes)) (all-bits (c .closing))
+      (exactly m calls R s t tl (Scx T u) Yes K (c .n + all T + 3) first
       (λ k n g p s ch linked e w. let (a, b) = terms-are k g in
       one-step (S C k) T u s ch linked a (e ∙ ap (S C k .terms) b ∙ a) (made .apart) (at k) n p w)
       (λ k n g l p h. same-infos T u (S C k) (S C (suc k)) (λ i b. left-in m calls R t tl k (g .busy k (g .later) (le-refl k)) (λ x. x .info)

@@ -7,7 +7,7 @@ use mathlib.Core.Logic.{_⊎_, inl, inr, _≢_, ⊎-elim}
 use Rattle.rules.specs.Words.{Machine, Call, Place, Idle, Check, Passed, Failed, Refusal, Refused, Accepted, Out}
 use Rattle.rules.specs.Words.{Ask, AskLlx, AskScx, AskVlx, AskRead, AskStep}
 use Rattle.rules.specs.Refuse.{isIdle, check, rulesOf}
-use Rattle.rules.specs.Next.{refused, started, answered, next}
+use Rattle.rules.specs.Next.{refused, started, accepted, answered, next}
 use Rattle.clauses.proofs.Updates.{tf}
 use Rattle.orders.specs.Demand.{before, said, place}
 use Rattle.orders.proofs.Calls.{Passes, next-is, obeyed}
@@ -35,15 +35,14 @@ module _ (m : Machine) (calls : ℕ → Call) (R : Run m calls) where
       starts : (ask : Ask) → Passes (M k) (calls k) ask → ask ≢ AskStep → isIdle (at k) ≡ true → said next m calls k ≡ Accepted → Turn k
       starts ask P n i a = inr (inl ((λ e. n (sym (P .asks) ∙ e)), a, idle-is (at k) i))
 
+      answer : (ask : Ask) → Passes (M k) (calls k) ask → said next m calls k ≡ accepted (M k) (calls k .task) ask (calls k .list) .answer
+      answer ask P = ap (λ (o : Out). o .answer) (next-is (M k) (calls k) ask P)
+
       asked : (ask : Ask) → Passes (M k) (calls k) ask → Turn k
-      asked (AskLlx r) P =
-          starts _ P (λ e. let z : _≡_ {A = ℕ} 0 1 = cc in absurd (omega arith)) (obeyed _ _ _ P .1 .0) (ap (λ (o : Out). o .answer) (next-is (M k) (calls k) _ P))
-      asked (AskScx n r w f v) P =
-          starts _ P (λ e. let z : _≡_ {A = ℕ} 0 1 = cc in absurd (omega arith)) (obeyed _ _ _ P .1 .0) (ap (λ (o : Out). o .answer) (next-is (M k) (calls k) _ P))
-      asked (AskVlx n) P =
-          starts _ P (λ e. let z : _≡_ {A = ℕ} 0 1 = cc in absurd (omega arith)) (obeyed _ _ _ P .1 .0) (ap (λ (o : Out). o .answer) (next-is (M k) (calls k) _ P))
-      asked (AskRead r f) P =
-          starts _ P (λ e. let z : _≡_ {A = ℕ} 0 1 = cc in absurd (omega arith)) (obeyed _ _ _ P .1 .0) (ap (λ (o : Out). o .answer) (next-is (M k) (calls k) _ P))
+      asked (AskLlx r) P = starts _ P (λ e. let z : _≡_ {A = ℕ} 0 1 = cc in absurd (omega arith)) (obeyed _ _ _ P .1 .0) (answer _ P)
+      asked (AskScx n r w f v) P = starts _ P (λ e. let z : _≡_ {A = ℕ} 0 1 = cc in absurd (omega arith)) (obeyed _ _ _ P .1 .0) (answer _ P)
+      asked (AskVlx n) P = starts _ P (λ e. let z : _≡_ {A = ℕ} 0 1 = cc in absurd (omega arith)) (obeyed _ _ _ P .1 .0) (answer _ P)
+      asked (AskRead r f) P = starts _ P (λ e. let z : _≡_ {A = ℕ} 0 1 = cc in absurd (omega arith)) (obeyed _ _ _ P .1 .0) (answer _ P)
       asked AskStep P = inr (inr (P .asks, λ e. busy (isIdle (at k)) (ap isIdle e) (obeyed _ _ _ P .1 .0)))
         where
           busy : (b : Bool) → b ≡ true → not b ≡ true → ⊥

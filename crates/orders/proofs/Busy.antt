@@ -1,11 +1,12 @@
--- A busy task moves by its own steps alone: calls of others leave it, a start of its own is refused, and its step is not.
-use Prim.Native.Nat.{ℕ, _<_}
+-- A busy task moves by its own steps alone: calls of others leave it, a start of its own is refused, and its step is not. Its operation is
+-- in progress until it is idle.
+use Prim.Native.Nat.{ℕ, suc, _<_}
 use mathlib.Core.Path.{_≡_, refl, sym, ap, _∙_, subst}
 use mathlib.Core.Bool.{true, false, true≢false}
 use mathlib.Core.Logic.{_⊎_, inl, inr, ⊎-elim, ⊎-map, _≢_}
 use native.Mathlib.Omega.{arith}
 use borrow.Author.Tests.{lt-ltb}
-use Rattle.rules.specs.Words.{Machine, Ask, AskLlx, AskScx, AskVlx, AskRead, AskStep, Call, Check, Passed, Failed, Refusal}
+use Rattle.rules.specs.Words.{Machine, Ask, AskLlx, AskScx, AskVlx, AskRead, AskStep, Call, Check, Passed, Failed, Refusal, Out}
 use Rattle.rules.specs.Words.{Place, Idle, L1, L2, L3, L4, L5, L6, L7, L8, L9, L10, L11, H1, H2, H3, H4, H5, H6, H7, H8, Vlx, Read}
 use Rattle.table.specs.Table.{taskAt}
 use Rattle.rules.specs.Refuse.{isIdle, check, rulesOf, idleAt}
@@ -14,6 +15,7 @@ use Rattle.rules.specs.Next.{refused, answered, next}
 use Rattle.rules.proofs.Exact.{passes}
 use Rattle.keeps.proofs.Fine.{Fine, in-shape}
 use Rattle.clauses.proofs.Updates.{same?}
+use Rattle.orders.specs.Demand.{place, Going}
 use Rattle.orders.proofs.Frames.{tasks-stay}
 use Rattle.orders.proofs.Calls.{Passes, obeyed}
 use Rattle.orders.proofs.Run.{task-in}
@@ -44,10 +46,10 @@ idle-or (Vlx n i) = inr refl
 idle-or (Read r f) = inr refl
 
 -- its own call is a step that passes, or it is none and leaves the table as it came
-abbrev Idles : Machine → Call → Machine → Type 0
-Idles m e m′ = (m′ ≡ m) × (Passes m e AskStep → ⊥)
+abbrev NoStep : Machine → Call → Machine → Type 0
+NoStep m e m′ = (m′ ≡ m) × (Passes m e AskStep → ⊥)
 
-pub own-call : (m : Machine) (e : Call) → idleAt m (e .task) ≡ false → Idles m e (next m e .m) ⊎ Passes m e AskStep
+pub own-call : (m : Machine) (e : Call) → idleAt m (e .task) ≡ false → NoStep m e (next m e .m) ⊎ Passes m e AskStep
 unfolding next refused
 own-call m e busy = go (check (rulesOf m e)) refl
   where
@@ -64,7 +66,7 @@ own-call m e busy = go (check (rulesOf m e)) refl
     failed : (why : Refusal) → check (rulesOf m e) ≡ Failed why → Passes m e AskStep → ⊥
     failed why h P = let q : Failed why ≡ Passed = sym h ∙ P .passed in let z : _≡_ {A = ℕ} 0 1 = cc in omega arith
 
-    go : (c : Check) → check (rulesOf m e) ≡ c → Idles m e (answered c m e .m) ⊎ Passes m e AskStep
+    go : (c : Check) → check (rulesOf m e) ≡ c → NoStep m e (answered c m e .m) ⊎ Passes m e AskStep
     go Passed h = inr (asked (e .ask) (record { passed = h; asks = refl }))
     go (Failed why) h = inl (refl, failed why h)
 
@@ -75,7 +77,7 @@ Leaves m e t m′ = (taskAt m′ t ≡ taskAt m t) × (Passes m e AskStep → e 
 pub by-steps : (m : Machine) (e : Call) (t : ℕ) → t < m .p → t < next m e .m .p → idleAt m t ≡ false
     → Leaves m e t (next m e .m) ⊎ (Passes m e AskStep × (e .task ≡ t))
 by-steps m e t l l′ busy = ⊎-elim
-    (λ (q : t ≡ e .task). ⊎-map (λ (o : Idles m e (next m e .m)). (ap (λ (m : Machine). taskAt m t) (o .0), λ P. absurd (o .1 P))) (λ P. (P, sym q))
+    (λ (q : t ≡ e .task). ⊎-map (λ (o : NoStep m e (next m e .m)). (ap (λ (m : Machine). taskAt m t) (o .0), λ P. absurd (o .1 P))) (λ P. (P, sym q))
     (own-call m e (subst (λ t. idleAt m t ≡ false) q busy)))
     (λ n. inl (sym (task-in (next m e .m) t l′) ∙ tasks-stay m e t n ∙ task-in m t l, λ P q. n (sym q))) (same? t (e .task))
 
@@ -84,4 +86,12 @@ unfolding rulesOf inShape InShape
 own-step m e F l busy q = record {
   passed = rw (q, passes (m .used) (shape m) (in-shape m F), lt-ltb (e .task) (m .p) l, busy) refl;
   asks = q;
+}
+
+-- in progress before call k, and busy after it: in progress before the next
+pub longer : (next : Machine → Call → Out) (m : Machine) (calls : ℕ → Call) (s t k : ℕ) → Going next m calls s t k
+    → place next m calls (suc k) t ≢ Idle → Going next m calls s t (suc k)
+longer next m calls s t k g b = record {
+  later = omega (arith, g .later);
+  busy = λ j a l. ⊎-elim (λ (e : j ≡ suc k). rw e b) (λ n. g .busy j a (omega arith)) (same? j (suc k));
 }

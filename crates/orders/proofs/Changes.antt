@@ -1,16 +1,18 @@
 -- A change of the statement is a number that a call of the course takes, with the terms that the start wrote down.
-use Prim.Native.Nat.{ℕ, suc, _+_, _<_}
+use Prim.Native.Nat.{ℕ, suc, _+_, _≤_, _<_}
 use mathlib.Core.Path.{_≡_, refl, sym, ap, _∙_, subst}
 use mathlib.Core.Logic.{_⊎_, inl, inr, _≢_}
-use Rattle.rules.specs.Words.{Machine, Own, H1, AskScx, Call, Check, Passed, Failed, Refusal, Refused, Out}
+use Rattle.rules.specs.Words.{Machine, Own, H1, Ask, AskScx, Call, Check, Passed, Failed, Refusal, Refused, Out}
 use Rattle.table.specs.Table.{taskAt}
 use Rattle.rules.specs.Start.{filled}
 use Rattle.rules.specs.Refuse.{check, rulesOf}
 use Rattle.rules.specs.Next.{refused, started, answered, next}
 use Rattle.clauses.proofs.Memory.{Terms, make}
 use Rattle.clauses.proofs.Steps.{termsOf}
-use Rattle.clauses.proofs.Course.{Course, Starts, Unstarted}
+use Rattle.clauses.proofs.Clauses.{Live}
+use Rattle.clauses.proofs.Course.{Course, X, Starts, Unstarted, born}
 use Rattle.orders.specs.Demand.{before, said, Change, During}
+use Rattle.orders.specs.Demand.{Starts as Begins}
 use Rattle.orders.proofs.Calls.{Passes, accepts, next-is, did-is, Scx, took}
 use Rattle.orders.proofs.Run.{Run, course}
 
@@ -24,6 +26,10 @@ module _ (m : Machine) (calls : ℕ → Call) (R : Run m calls) where
   abbrev Ch : Type 0
   Ch = Change next m calls
 
+  -- an accepted start has passed
+  pub start-passes : (s t : ℕ) (ask : Ask) → Begins next m calls s t ask → Passes (M s) (calls s) ask
+  start-passes s t ask B = record { passed = accepts (M s) (calls s) (B .accepted); asks = ap (λ (e : Call). e .ask) (B .asks) }
+
   pub by-task : (c : Ch) → calls (c .start) .task ≡ c .task
   by-task c = ap (λ (e : Call). e .task) (c .asks)
 
@@ -31,7 +37,7 @@ module _ (m : Machine) (calls : ℕ → Call) (R : Run m calls) where
   by-list c = ap (λ (e : Call). e .list) (c .asks)
 
   pub passes : (c : Ch) → Passes (M (c .start)) (calls (c .start)) (AskScx (c .n) (c .closing) (c .written) (c .field) (c .new))
-  passes c = record { passed = accepts (M (c .start)) (calls (c .start)) (c .accepted); asks = ap (λ (e : Call). e .ask) (c .asks) }
+  passes c = start-passes (c .start) (c .task) _ (record { list = c .list; asks = c .asks; accepted = c .accepted })
 
   -- it takes the next number, and writes down what it asks for
   pub number-is : (c : Ch) → c .number ≡ M (c .start) .used + 1
@@ -85,6 +91,17 @@ module _ (m : Machine) (calls : ℕ → Call) (R : Run m calls) where
 
   pub during : (c : Ch) (k : ℕ) → c .start < k → Unstarted C (c .number) (suc (c .start)) k → During next m calls c k
   during c k h W = record { later = h; alone = λ d a b e. W (d .start) a b (starts d (c .number) e) }
+
+  -- a live number has its change
+  pub change-at : (k u : ℕ) → Live (X C k) u → (c : Ch) × (c .number ≡ u) × During next m calls c k
+  change-at k u l =
+      let (s, h, B, W) = born C k u l in
+      let (c, e, q) = change-of s u B in (
+        c,
+        q,
+        during c k (subst (λ s. s < k) (sym e) h)
+            (λ i a b z. W i (subst (λ s. suc s ≤ i) e a) b (subst (λ u. (t : Terms) × (C .act i ≡ make u t)) q z)),
+      )
 
   -- every SCX is refused or is a change
   pub is-a-change : (k n r written field new : ℕ) → calls k .ask ≡ AskScx n r written field new

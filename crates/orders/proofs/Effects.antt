@@ -1,5 +1,5 @@
 -- Effects of the statement are the writes of the course; with that, its sentences on effects and on closed records.
-use Prim.Native.Nat.{ℕ, zero, suc, _/_, _%_, _^_, _≤_, _<_}
+use Prim.Native.Nat.{ℕ, zero, suc, _/_, _%_, _^_, _<_}
 use mathlib.Core.Path.{_≡_, refl, sym, ap, _∙_, subst}
 use mathlib.Core.Bool.{Bool, true, false, true≢false}
 use mathlib.Core.Logic.{_⊎_, inl, inr, ⊎-elim}
@@ -7,17 +7,17 @@ use mathlib.Core.List.{List}
 use native.Mathlib.Omega.{arith}
 use native.Mathlib.Nat.{div-one}
 use lib.ListN.{getD}
-use borrow.Author.Tests.{eq-eqb}
+use borrow.Author.Tests.{eqb-true, eq-eqb}
 use Rattle.rules.specs.Start.{places}
 use Rattle.rules.specs.Words.{Record, Machine, AskStep, Call}
 use Rattle.table.specs.Table.{pick, cellAt, recordAt, taskAt}
 use Rattle.rules.specs.Next.{next}
 use Rattle.keeps.proofs.Refused.{isRefusal, passed-answers}
 use Rattle.clauses.proofs.Updates.{same?, leb-case}
-use Rattle.clauses.proofs.Memory.{Terms, Shared, apply, nop, write, make}
+use Rattle.clauses.proofs.Memory.{Terms, Shared, apply, nop, write}
 use Rattle.clauses.proofs.Memory.{spot as spotOf}
 use Rattle.clauses.proofs.Steps.{is-old, actAt}
-use Rattle.clauses.proofs.Course.{Course, S, turn, born, since-start}
+use Rattle.clauses.proofs.Course.{Course, S, turn, since-start}
 use Rattle.clauses.proofs.Came.{Wrote, Writes, alters-by, writes-alter}
 use Rattle.clauses.proofs.Sentences.{write-live, once as one-write, alters as write-alters}
 use Rattle.clauses.proofs.Closed.{closed as stays-closed}
@@ -25,7 +25,22 @@ use Rattle.orders.specs.Demand.{before, place, cell, mark, info, Steps, 
 use Rattle.orders.proofs.View.{shared, recordIn}
 use Rattle.orders.proofs.Calls.{Passes, not-refused, did-is, obeyed, wrote}
 use Rattle.orders.proofs.Run.{Run, course, record-in}
-use Rattle.orders.proofs.Changes.{by-list, passes, terms, makes, change-of, alone, during}
+use Rattle.orders.proofs.Changes.{by-list, passes, terms, makes, alone, change-at}
+
+-- the bits of R, place by place, and the other way round
+bits : (r i : ℕ) → i < 4 → r / 2 ^ i % 2 ≡ 1 → getD (places r) i false ≡ true
+bits r zero h q = eq-eqb _ _ (ap (λ x. x % 2) (sym (div-one r)) ∙ q)
+bits r (suc zero) h q = eq-eqb _ _ q
+bits r (suc (suc zero)) h q = eq-eqb _ _ q
+bits r (suc (suc (suc zero))) h q = eq-eqb _ _ q
+bits r (suc (suc (suc (suc i)))) h q = absurd (omega arith)
+
+pub bit : (r i : ℕ) → i < 4 → getD (places r) i false ≡ true → r / 2 ^ i % 2 ≡ 1
+bit r zero h q = ap (λ x. x % 2) (div-one r) ∙ eqb-true _ _ q
+bit r (suc zero) h q = eqb-true _ _ q
+bit r (suc (suc zero)) h q = eqb-true _ _ q
+bit r (suc (suc (suc zero))) h q = eqb-true _ _ q
+bit r (suc (suc (suc (suc i)))) h q = absurd (omega arith)
 
 module _ (m : Machine) (calls : ℕ → Call) (R : Run m calls) where
   abbrev M : ℕ → Machine
@@ -46,7 +61,8 @@ module _ (m : Machine) (calls : ℕ → Call) (R : Run m calls) where
 
   pub inside : (c : Ch) (i : ℕ) → i < c .n → named next m calls c i < m .n
   inside c i h = subst (λ n. named next m calls c i < n) (R .same-n (c .start))
-      (subst (λ (l : List ℕ). getD l i 0 < M (c .start) .n) (by-list m calls R c) (obeyed (M (c .start)) (calls (c .start)) _ (passes m calls R c) .1 .1 .1 .0 i h))
+      (subst (λ (l : List ℕ). getD l i 0 < M (c .start) .n) (by-list m calls R c)
+      (obeyed (M (c .start)) (calls (c .start)) _ (passes m calls R c) .1 .1 .1 .0 i h))
 
   pub written-inside : (c : Ch) → c .written < c .n
   written-inside c = obeyed (M (c .start)) (calls (c .start)) _ (passes m calls R c) .1 .1 .1 .1 .1 .0 .0
@@ -103,12 +119,7 @@ module _ (m : Machine) (calls : ℕ → Call) (R : Run m calls) where
       }
 
   pub effect-of : (k u : ℕ) → Writes C k u → (c : Ch) × (c .number ≡ u) × Effect next m calls c k
-  effect-of k u E =
-      let (s, h, B, W) = born C k u (write-live C k u E) in
-      let (c, e, q) = change-of m calls R s u B in
-      let D = during m calls R c k (subst (λ s. s < k) (sym e) h)
-      (λ i a b z. W i (subst (λ s. suc s ≤ i) e a) b (subst (λ u. (t : Terms) × (C .act i ≡ make u t)) q z)) in
-      (c, q, effect c k D (E ∙ ap write (sym q)))
+  effect-of k u E = let (c, q, D) = change-at m calls R k u (write-live C k u E) in (c, q, effect c k D (E ∙ ap write (sym q)))
 
   -- "alters its one field exactly once"
   pub once : (c : Ch) (j k : ℕ) → Effect next m calls c j → Effect next m calls c k → j ≡ k
@@ -122,7 +133,8 @@ module _ (m : Machine) (calls : ℕ → Call) (R : Run m calls) where
   pub alters-its-field : (c : Ch) (k : ℕ) → Effect next m calls c k
       → cell next m calls (suc k) (spot next m calls c) (c .field) ≡ record { value = c .new; stamp = c .number }
   alters-its-field c k E = sym (cell-is (suc k) (spot next m calls c) (c .field) (spot-inside c))
-      ∙ write-alters C (c .start) (c .number) (terms m calls R c) (makes m calls R c) k (E .during .later) (alone m calls R c k (E .during)) (writes c k E) .1
+      ∙ write-alters C (c .start) (c .number) (terms m calls R c) (makes m calls R c) k (E .during .later)
+      (alone m calls R c k (E .during)) (writes c k E) .1
 
   -- "A change without effect alters no field"
   pub by-an-effect : (k r f : ℕ) → r < m .n
@@ -135,14 +147,6 @@ module _ (m : Machine) (calls : ℕ → Call) (R : Run m calls) where
           let (c, q, D) = effect-of k u E in
           let P : S C k .terms u ≡ terms m calls R c = subst (λ u. S C k .terms u ≡ terms m calls R c) q (terms-at c k (D .during) (writes c k D)) in
           (c, D, a ∙ ap (λ (t : Terms). spotOf t) P, b ∙ ap (λ (t : Terms). t .field) P)
-
-  -- the bits of R, place by place
-  bits : (r i : ℕ) → i < 4 → r / 2 ^ i % 2 ≡ 1 → getD (places r) i false ≡ true
-  bits r zero h q = eq-eqb _ _ (ap (λ x. x % 2) (sym (div-one r)) ∙ q)
-  bits r (suc zero) h q = eq-eqb _ _ q
-  bits r (suc (suc zero)) h q = eq-eqb _ _ q
-  bits r (suc (suc (suc zero))) h q = eq-eqb _ _ q
-  bits r (suc (suc (suc (suc i)))) h q = absurd (omega arith)
 
   few : (c : Ch) (i : ℕ) → i < c .n → i < 4
   few c i h = omega (arith, obeyed (M (c .start)) (calls (c .start)) _ (passes m calls R c) .1 .1 .0 .1)

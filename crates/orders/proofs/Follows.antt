@@ -11,6 +11,7 @@ use Rattle.rules.specs.Refuse.{isIdle}
 use Rattle.clauses.proofs.Updates.{same?, leb-case, tf}
 use Rattle.orders.specs.Demand.{Brings, at-h3, at-h4, at-h8, Works, h1, h3, h4, h8, leads, answers}
 use Rattle.orders.specs.Demand.{said, place, Steps, Change, During, Verdict, Going, Demand3}
+use Rattle.orders.proofs.Busy.{longer}
 use Rattle.orders.proofs.Working.{works-on}
 
 -- a place has one `after`
@@ -75,11 +76,7 @@ module _ (next : Machine → Call → Out) (m : Machine) (calls : ℕ → Call) 
       × ((d : Ch) × (v : Bool) × (c .start ≡ d .start) × Verdict next m calls d k v × (said next m calls k ≡ answers Own v)))
   its-answer c k g = let (w, A) = works c k g in ⊎-elim
       (λ (h : Works (c .number) Own (place next m calls (suc k) (c .task)) × (Steps next m calls k (c .task) → said next m calls k ≡ Accepted)).
-      inl (record {
-        later = omega (arith, g .later);
-        busy = λ j a b. ⊎-elim (λ (e : j ≡ suc k). subst (λ j. place next m calls j (c .task) ≢ Idle) (sym e) (busy (h .0)))
-            (λ n. g .busy j a (omega arith)) (same? j (suc k));
-      }))
+      inl (longer next m calls (c .start) (c .task) k g (busy (h .0))))
       (λ (h : Done c k). let (P, (d, v, e, B)) = h in
       inr (P, (d, v, same-change c d k A (B .during) (sym e), B, ended c k w h .1)))
       (D .finishes k (c .task) (c .number) Own w)

@@ -1,5 +1,5 @@
--- Every run from a fresh table is one: at the start nothing is held, linked or busy; the shape and the arrays' lengths stay, and every
--- call is a turn.
+-- Every run from a fresh table is a Run (Run.antt): at first nothing is held, linked or busy; the shape and the arrays' lengths stay, and
+-- every call is a turn.
 use Prim.Native.Nat.{ℕ, zero, suc, _≤_, _<_}
 use mathlib.Core.Path.{_≡_, refl, sym, ap, _∙_, subst}
 use mathlib.Core.Bool.{Bool, true, false, true≢false}
@@ -63,15 +63,15 @@ past-stays : (m : Machine) (e : Call) (t : ℕ) → m .p ≤ t → taskAt (next 
 unfolding next refused started start step settle perform
 past-stays m e t h = go (check (rulesOf m e)) refl
   where
-    other : (ask : Ask) → Passes m e ask → e .task < m .p → t ≢ e .task
-    other ask P l q = omega arith
+    other : e .task < m .p → t ≢ e .task
+    other l q = omega arith
 
     asked : (ask : Ask) → Passes m e ask → taskAt (accepted m (e .task) ask (e .list) .m) t ≡ taskAt m t
-    asked (AskLlx r) P = getD-set-other (m .tasks) (e .task) t _ noTask (other _ P (obeyed m e _ P .0))
-    asked (AskScx n r written field new) P = getD-set-other (m .tasks) (e .task) t _ noTask (other _ P (obeyed m e _ P .0))
-    asked (AskVlx n) P = getD-set-other (m .tasks) (e .task) t _ noTask (other _ P (obeyed m e _ P .0))
-    asked (AskRead r f) P = getD-set-other (m .tasks) (e .task) t _ noTask (other _ P (obeyed m e _ P .0))
-    asked AskStep P = getD-set-other (m .tasks) (e .task) t _ noTask (other _ P (obeyed m e _ P .0))
+    asked (AskLlx r) P = getD-set-other (m .tasks) (e .task) t _ noTask (other (obeyed m e _ P .0))
+    asked (AskScx n r written field new) P = getD-set-other (m .tasks) (e .task) t _ noTask (other (obeyed m e _ P .0))
+    asked (AskVlx n) P = getD-set-other (m .tasks) (e .task) t _ noTask (other (obeyed m e _ P .0))
+    asked (AskRead r f) P = getD-set-other (m .tasks) (e .task) t _ noTask (other (obeyed m e _ P .0))
+    asked AskStep P = getD-set-other (m .tasks) (e .task) t _ noTask (other (obeyed m e _ P .0))
 
     go : (c : Check) → check (rulesOf m e) ≡ c → taskAt (answered c m e .m) t ≡ taskAt m t
     go Passed q = asked (e .ask) (record { passed = q; asks = refl })
@@ -97,17 +97,18 @@ module _ (p n : ℕ) (values : List ℕ) (ok : inRange p n (length values) ≡ t
   unfolding freshMachine
   unused = ap (λ (m : Machine). m .used) fresh-is
 
-  idle : (t : ℕ) → taskIn from t .place ≡ Idle
+  all-idle : (t : ℕ) → taskAt from t .place ≡ Idle
   unfolding freshMachine
-  idle t = rw fresh-is (picked (λ (x : Task). x .place ≡ Idle) (ltb t p) (getD (replicate 8 idleTask) t noTask) noTask
-      (λ e. ap (λ (x : Task). x .place) (getD-replicate 8 t idleTask noTask (few t (ltb-true t p e)))) (λ e. refl))
-    where
-      few : (t : ℕ) → t < p → t < 8
-      few t h = let q : from .p ≡ p = ap (λ (m : Machine). m .p) fresh-is in omega (arith, q, fine from fresh-shaped .p<9)
+  all-idle t = rw fresh-is (⊎-elim (λ h. ap (λ (x : Task). x .place) (List·getD-eq-default (replicate 8 idleTask) noTask h))
+      (λ h. ap (λ (x : Task). x .place) (getD-replicate 8 t idleTask noTask h)) (leb-case 8 t))
+
+  idle : (t : ℕ) → taskIn from t .place ≡ Idle
+  idle t = picked (λ (x : Task). x .place ≡ Idle) (ltb t (from .p)) (taskAt from t) noTask (λ e. all-idle t) (λ e. refl)
 
   unlinked : (t r : ℕ) → linkIn from t r .there ≡ false
   unfolding freshMachine
-  unlinked t r = rw fresh-is (picked (λ (k : Link). k .there ≡ false) (ltb t p) (pick (ltb r n) (getD (replicate 256 emptyLink) (slot t r) noLink) noLink) noLink
+  unlinked t r = rw fresh-is (picked (λ (k : Link). k .there ≡ false) (ltb t p)
+      (pick (ltb r n) (getD (replicate 256 emptyLink) (slot t r) noLink) noLink) noLink
       (λ e. picked (λ (k : Link). k .there ≡ false) (ltb r n) (getD (replicate 256 emptyLink) (slot t r) noLink) noLink
       (λ q. ap (λ (k : Link). k .there) (getD-replicate 256 (slot t r) emptyLink noLink (inside t r (ltb-true t p e) (ltb-true r n q)))) (λ q. refl))
       (λ e. refl))
@@ -167,11 +168,6 @@ module _ (p n : ℕ) (values : List ℕ) (ok : inRange p n (length values) ≡ t
     unfolding before
     counts zero = (refl, refl)
     counts (suc k) = let (a, b) = same-counts (M k) (calls k) in let (c, d) = counts k in (a ∙ c, b ∙ d)
-
-    all-idle : (t : ℕ) → taskAt (M 0) t .place ≡ Idle
-    unfolding before freshMachine
-    all-idle t = rw fresh-is (⊎-elim (λ h. ap (λ (x : Task). x .place) (List·getD-eq-default (replicate 8 idleTask) noTask h))
-        (λ h. ap (λ (x : Task). x .place) (getD-replicate 8 t idleTask noTask h)) (leb-case 8 t))
 
     past : (k t : ℕ) → from .p ≤ t → taskAt (M k) t .place ≡ Idle
     unfolding before

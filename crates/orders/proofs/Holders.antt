@@ -1,15 +1,11 @@
 -- Who holds a record: an info alters only when a change takes hold; where it is not 0, it is of the change that took hold last. A record
 -- whose holders all have a verdict is held by nobody, and if none of them closed it, it is open.
-use Prim.Native.Nat.{ℕ, zero, suc, _/_, _%_, _^_, _<_}
+use Prim.Native.Nat.{ℕ, suc, _<_}
 use mathlib.Core.Path.{_≡_, sym, ap, _∙_, subst}
 use mathlib.Core.Bool.{Bool, true, false}
 use mathlib.Core.Logic.{_⊎_, inl, inr, _≢_, ⊎-elim}
 use native.Mathlib.Omega.{arith}
-use native.Mathlib.Nat.{div-one}
-use lib.ListN.{getD}
-use borrow.Author.Tests.{eqb-true}
 use Rattle.rules.specs.Words.{Record, InProgress, Machine, Call}
-use Rattle.rules.specs.Start.{places}
 use Rattle.rules.specs.Next.{next}
 use Rattle.clauses.proofs.Updates.{same?, leb-case, bool?}
 use Rattle.clauses.proofs.Memory.{Terms, Act, hold, make}
@@ -22,16 +18,8 @@ use Rattle.clauses.proofs.Sentences.{happened}
 use Rattle.orders.specs.Demand.{before, info, mark, Change, Closes, During, Effect, Holds, Verdict}
 use Rattle.orders.proofs.Run.{Run, course}
 use Rattle.orders.proofs.Changes.{terms, makes, alone, during}
-use Rattle.orders.proofs.Effects.{is-in, effect}
+use Rattle.orders.proofs.Effects.{bit, is-in, effect}
 use Rattle.orders.proofs.Verdicts.{ended, holds}
-
--- a bit of R
-bit : (r i : ℕ) → i < 4 → getD (places r) i false ≡ true → r / 2 ^ i % 2 ≡ 1
-bit r zero h q = ap (λ x. x % 2) (div-one r) ∙ eqb-true _ _ q
-bit r (suc zero) h q = eqb-true _ _ q
-bit r (suc (suc zero)) h q = eqb-true _ _ q
-bit r (suc (suc (suc zero))) h q = eqb-true _ _ q
-bit r (suc (suc (suc (suc i)))) h q = absurd (omega arith)
 
 not-both : {u i x : ℕ} {c : Terms} {b : Act} → b ≡ hold u i → b ≡ make x c → ⊥
 not-both p q = let z : _≡_ {A = ℕ} 0 1 = cc in omega arith

@@ -18,9 +18,9 @@ pub mod Ways
 pub mod Snaps
 pub mod Untouched
 pub mod Busy
+pub mod Working
 pub mod Verdicts
 pub mod Holders
-pub mod Working
 pub mod Asked
 pub mod Every
 pub mod Given

@@ -1,7 +1,7 @@
 -- A run whose tables are in shape and whose calls are turns is a course of the clauses.
 use Prim.Native.Nat.{ℕ, suc, _≤_, _<_}
 use mathlib.Core.Path.{_≡_, refl, sym, ap, _∙_, subst}
-use mathlib.Core.Logic.{inr, _≢_}
+use mathlib.Core.Logic.{inr, _≢_, ⊎-elim}
 use mathlib.Core.Bool.{true, false}
 use borrow.Author.Tests.{lt-ltb}
 use Rattle.rules.specs.Words.{Machine, Task, Idle, Ask, AskStep, Call}
@@ -10,6 +10,7 @@ use Rattle.rules.specs.Access.{changeOf, recordOf}
 use Rattle.rules.specs.Step.{accessAt, moveAt}
 use Rattle.rules.specs.Next.{next}
 use Rattle.keeps.proofs.Fine.{Fine}
+use Rattle.clauses.proofs.Updates.{leb-case}
 use Rattle.clauses.proofs.History.{Ghost, none-yet}
 use Rattle.clauses.proofs.Clauses.{Live, At}
 use Rattle.clauses.proofs.Clauses.{Fine as Clauses}
@@ -65,6 +66,10 @@ task-in m t h = entry-is (m .p) (m .tasks) noTask t h
 
 pub link-in : (m : Machine) (t r : ℕ) → t < m .p → r < m .n → linkIn m t r ≡ linkAt m t r
 link-in m t r h l = rw (lt-ltb t (m .p) h, lt-ltb r (m .n) l) refl
+
+-- a busy task is one of the table's
+pub busy-inside : (m : Machine) (calls : ℕ → Call) → Run m calls → (k t : ℕ) → place next m calls k t ≢ Idle → t < m .p
+busy-inside m calls R k t b = ⊎-elim (λ h. absurd (b (R .past k t h))) (λ l. l) (leb-case (m .p) t)
 
 -- what the clauses know of a task of the table before call k
 module _ (m : Machine) (calls : ℕ → Call) (R : Run m calls) (k t : ℕ) (tl : t < m .p) where

@@ -24,9 +24,10 @@ use Rattle.clauses.proofs.LinkedReads.{Ends, read-at}
 use Rattle.orders.specs.Demand.{before, said, place, Starts, Going, Snap}
 use Rattle.orders.proofs.View.{linkIn, reading}
 use Rattle.orders.proofs.Frames.{tasks-stay}
-use Rattle.orders.proofs.Calls.{Passes, accepts, next-is, reading-is, obeyed, snapped}
-use Rattle.orders.proofs.Run.{Run, course, inside, task-in}
-use Rattle.orders.proofs.Busy.{idle-or}
+use Rattle.orders.proofs.Calls.{Passes, next-is, reading-is, obeyed, snapped}
+use Rattle.orders.proofs.Run.{Run, course, inside, busy-inside, task-in}
+use Rattle.orders.proofs.Busy.{idle-or, longer}
+use Rattle.orders.proofs.Changes.{start-passes}
 use Rattle.orders.proofs.Effects.{cell-is, passed-steps, act-is}
 use Rattle.orders.proofs.Ways.{of, isSnapshot, moves}
 
@@ -37,6 +38,7 @@ module _ (m : Machine) (calls : ℕ → Call) (R : Run m calls) where
   abbrev C : Course
   C = course m calls R
 
+  -- after call e, t has a link to r with the cells that e answers
   abbrev Link-at : ℕ → ℕ → ℕ → Type 0
   Link-at e t r = (linkIn (M (suc e)) t r .there ≡ true) × (linkIn (M (suc e)) t r .cells ≡ next (M e) (calls e) .cells)
 
@@ -56,7 +58,7 @@ module _ (m : Machine) (calls : ℕ → Call) (R : Run m calls) where
     Began = Starts next m calls k t (AskLlx r)
 
     tl : t < m .p
-    tl = ⊎-elim (λ l. absurd (busy (suc k) t r h (R .past (suc k) t l))) (λ l. l) (leb-case (m .p) t)
+    tl = busy-inside m calls R (suc k) t (busy (suc k) t r h)
 
     others : t ≢ calls k .task → Began
     unfolding before
@@ -94,14 +96,7 @@ module _ (m : Machine) (calls : ℕ → Call) (R : Run m calls) where
   since : (k t r : ℕ) → at k t ≡ suc r → Since k t r
   since zero t r h = absurd (busy 0 t r h (R .idle t))
   since (suc k) t r h = ⊎-elim
-      (λ e. let (s, B, g) = since k t r e in (
-        s,
-        B,
-        record {
-          later = omega (arith, g .later);
-          busy = λ j a l. ⊎-elim (λ (q : j ≡ suc k). rw q (busy (suc k) t r h)) (λ n. g .busy j a (omega arith)) (same? j (suc k));
-        },
-      ))
+      (λ e. let (s, B, g) = since k t r e in (s, B, longer next m calls s t k g (busy (suc k) t r h)))
       (λ d. (
         k,
         by-start k t r h d,
@@ -130,7 +125,7 @@ module _ (m : Machine) (calls : ℕ → Call) (R : Run m calls) where
       go (Failed why) c s = absurd (false≢true (ap isSnapshot s))
 
   -- the link that it stores, with the cells that it answers
-  pub stored : (e t r : ℕ) → Ends C e t r → (linkIn (M (suc e)) t r .there ≡ true) × (linkIn (M (suc e)) t r .cells ≡ next (M e) (calls e) .cells)
+  stored : (e t r : ℕ) → Ends C e t r → Link-at e t r
   stored e t r E =
       let (P, at, said) = snapped (M e) (calls e) (E .ends) in
       let k = reading-is (M e) (calls e) AskStep P in
@@ -146,7 +141,8 @@ module _ (m : Machine) (calls : ℕ → Call) (R : Run m calls) where
       let now : j ≡ e = ⊎-elim (λ q. q) (λ n. absurd (A .last e (omega (arith, A .before)) (omega arith) E)) (same? j e) in
       let (anchor, snap, ended) = fine C (suc e) .LINKS t r there in
       let stands : S C (suc e) .info r ≡ linkIn (M (suc e)) t r .info = ⊎-elim (λ q. q)
-      (λ n. absurd (omega (arith, anchor .TAKEN n, A .time, now, fine C (suc e) .PAST r .0, now-is C (suc e)))) (same? (S C (suc e) .info r) (linkIn (M (suc e)) t r .info)) in
+      (λ n. absurd (omega (arith, anchor .TAKEN n, A .time, now, fine C (suc e) .PAST r .0, now-is C (suc e))))
+      (same? (S C (suc e) .info r) (linkIn (M (suc e)) t r .info)) in
       ap (λ cs. cellAt cs f) (sym cells) ∙ sym (snap stands f l)
 
   -- an L6 alters no cell
@@ -162,7 +158,7 @@ module _ (m : Machine) (calls : ℕ → Call) (R : Run m calls) where
 
   record-inside : (s t r : ℕ) → Starts next m calls s t (AskLlx r) → r < m .n
   record-inside s t r B = subst (λ n. r < n) (R .same-n s)
-      (obeyed (M s) (calls s) _ (record { passed = accepts (M s) (calls s) (B .accepted); asks = ap (λ (c : Call). c .ask) (B .asks) }) .1 .1 .0)
+      (obeyed (M s) (calls s) _ (start-passes m calls R s t (AskLlx r) B) .1 .1 .0)
 
   -- EVERY SNAPSHOT ENDS AN LLX, and that of the record whose link it stores
   snap-at : (k : ℕ) → reading (M k) (calls k) .ends ≡ true → Snap next m calls k (calls k .task) (reading (M k) (calls k) .at)
@@ -176,7 +172,8 @@ module _ (m : Machine) (calls : ℕ → Call) (R : Run m calls) where
         going = g;
         steps = passed-steps m calls R k P;
         answer = answer;
-        tells = λ f l. tells k (calls k .task) r (record { by = refl; ends = h; of = e }) f l ∙ still k h r f ∙ cell-is m calls R k r f (record-inside s _ r B);
+        tells = λ f l. tells k (calls k .task) r (record { by = refl; ends = h; of = e }) f l ∙ still k h r f
+            ∙ cell-is m calls R k r f (record-inside s _ r B);
       })
 
   pub snap-of : (k t r : ℕ) → calls k .task ≡ t → reading (M k) (calls k) .ends ≡ true → reading (M k) (calls k) .at ≡ r → Snap next m calls k t r
@@ -188,15 +185,15 @@ module _ (m : Machine) (calls : ℕ → Call) (R : Run m calls) where
   -- a task has one LLX at a time: a start is of an idle task
   from-idle : (s t r : ℕ) → Starts next m calls s t (AskLlx r) → isIdle (place next m calls s t) ≡ true
   from-idle s t r B = subst (λ t. isIdle (place next m calls s t) ≡ true) (ap (λ (c : Call). c .task) (B .asks))
-      (obeyed (M s) (calls s) _ (record { passed = accepts (M s) (calls s) (B .accepted); asks = ap (λ (c : Call). c .ask) (B .asks) }) .1 .0)
+      (obeyed (M s) (calls s) _ (start-passes m calls R s t (AskLlx r) B) .1 .0)
 
-  no-later : (k s j t r x : ℕ) → Going next m calls s t k → Starts next m calls j t (AskLlx x) → Going next m calls j t k → s < j → ⊥
-  no-later k s j t r x g B h l = ⊎-elim (λ e. g .busy j l (omega (arith, h .later)) e) (λ b. tf (from-idle j t x B) b) (idle-or (place next m calls j t))
+  no-later : (k s j t x : ℕ) → Going next m calls s t k → Starts next m calls j t (AskLlx x) → Going next m calls j t k → s < j → ⊥
+  no-later k s j t x g B h l = ⊎-elim (λ e. g .busy j l (omega (arith, h .later)) e) (λ b. tf (from-idle j t x B) b) (idle-or (place next m calls j t))
 
   one-read : (k t r x : ℕ) → Since k t r → Since k t x → r ≡ x
   one-read k t r x (s, A, g) (j, B, h) = ⊎-elim
       (λ (e : s ≡ j). let q : AskLlx r ≡ AskLlx x = ap (λ (c : Call). c .ask) (sym (A .asks) ∙ ap calls e ∙ B .asks) in cc)
-      (λ n. ⊎-elim (λ l. absurd (no-later k s j t r x g B h (omega arith))) (λ l. absurd (no-later k j s t x r h A g l)) (leb-case s j)) (same? s j)
+      (λ n. ⊎-elim (λ l. absurd (no-later k s j t x g B h (omega arith))) (λ l. absurd (no-later k j s t r h A g l)) (leb-case s j)) (same? s j)
 
   pub read-is : (k t r : ℕ) → Snap next m calls k t r → (calls k .task ≡ t) × (reading (M k) (calls k) .ends ≡ true) × (reading (M k) (calls k) .at ≡ r)
   read-is k t r B =

@@ -1,5 +1,5 @@
--- The sentences on verdicts: who finishes work on a change brings one, all agree, yes only after the effect, no only if there is none
--- and another change took hold.
+-- The sentences on verdicts: all agree, yes only after the effect, no only if there never is one and another change took hold. A change with
+-- a verdict has ended, and an H1 that sets an info is a change that takes hold.
 use Prim.Native.Nat.{ℕ, suc, _≤_, _<_}
 use mathlib.Core.Path.{_≡_, refl, sym, ap, _∙_, subst}
 use mathlib.Core.Bool.{Bool, true, false}
@@ -9,25 +9,25 @@ use native.Mathlib.Omega.{arith}
 use native.Mathlib.Nat.{le-refl}
 use Rattle.rules.specs.Words.{Cell, Record, InProgress, Committed, After, Machine, Place, H1, Call}
 use Rattle.table.specs.Table.{taskAt}
-use Rattle.rules.specs.Access.{changeOf}
 use Rattle.rules.specs.Next.{next}
 use Rattle.clauses.proofs.Updates.{upd-hit}
-use Rattle.clauses.proofs.Memory.{Terms, Shared, make, hold, apply}
+use Rattle.clauses.proofs.Memory.{Terms, Shared, hold, apply}
 use Rattle.clauses.proofs.Steps.{actAt}
 use Rattle.clauses.proofs.Frame.{stay-ended}
 use Rattle.clauses.proofs.History.{Ghost}
 use Rattle.clauses.proofs.Clauses.{OkOf, LostOf, At, Live}
 use Rattle.clauses.proofs.Rights.{CI, AI, lost-frozen, hold-going}
-use Rattle.clauses.proofs.Course.{Course, X, S, history, fine, turn, guard, ever, born, since-start}
+use Rattle.clauses.proofs.Course.{Course, X, S, history, fine, turn, guard, ever, since-start}
 use Rattle.clauses.proofs.Came.{Sets}
 use Rattle.clauses.proofs.Sentences.{happened, because, never}
-use Rattle.orders.specs.Demand.{Brings, at-h3, at-h4, at-h8, before, place, info, Steps, named, During, Effect, Holds, LinkedRead, Verdict}
-use Rattle.orders.specs.Demand.{Change as Made}
-use Rattle.orders.proofs.Calls.{obeyed, held}
-use Rattle.orders.proofs.Run.{Run, course, place-known, works-live}
-use Rattle.orders.proofs.Changes.{another, terms, makes, change-of, alone, during}
-use Rattle.orders.proofs.Effects.{is-in, inside, step-passes, passed-steps, act-is, writes, effect}
+use Rattle.orders.specs.Demand.{Brings, at-h3, at-h4, at-h8, Works, h3, h4, h8}
+use Rattle.orders.specs.Demand.{before, place, info, Change, named, During, Effect, Holds, LinkedRead, Verdict}
+use Rattle.orders.proofs.Calls.{held}
+use Rattle.orders.proofs.Run.{Run, course, place-known}
+use Rattle.orders.proofs.Changes.{another, terms, makes, alone, during, change-at}
+use Rattle.orders.proofs.Effects.{is-in, inside, passed-steps, act-is, writes, effect}
 use Rattle.orders.proofs.Untouched.{read-of}
+use Rattle.orders.proofs.Working.{worker, worked-on}
 
 -- what a place tells of the verdict that it brings: the change has happened, or is lost
 abbrev Tells : Shared → Ghost → ℕ → Bool → Type 0
@@ -40,16 +40,11 @@ tells S G u O cs after q v (at-h3 frozen) h = ⊎-elim (λ c. O .COMMITTED c) (�
 tells S G u O cs after q v at-h4 h = h .1
 tells S G u O cs after q v at-h8 h = h .1
 
-names : (u : ℕ) (after : After) (frozen : Bool) (q : Place) (v : Bool) → Brings u after frozen q v → changeOf q ≡ u
-names u after frozen q v (at-h3 e) = refl
-names u after frozen q v at-h4 = refl
-names u after frozen q v at-h8 = refl
-
-nonzero : (S : Shared) (G : Ghost) (cs : List Cell) (u : ℕ) (after : After) (frozen : Bool) (q : Place) (v : Bool)
-    → Brings u after frozen q v → At S G cs q → u ≢ 0
-nonzero S G cs u after frozen q v (at-h3 e) h = h .0
-nonzero S G cs u after frozen q v at-h4 h = h .0
-nonzero S G cs u after frozen q v at-h8 h = h .0
+-- who brings a verdict worked on the change
+works : (u : ℕ) (after : After) (frozen : Bool) (q : Place) (v : Bool) → Brings u after frozen q v → Works u after q
+works u after frozen q v (at-h3 e) = h3
+works u after frozen q v at-h4 = h4
+works u after frozen q v at-h8 = h8
 
 module _ (m : Machine) (calls : ℕ → Call) (R : Run m calls) where
   abbrev M : ℕ → Machine
@@ -62,29 +57,28 @@ module _ (m : Machine) (calls : ℕ → Call) (R : Run m calls) where
   H k = history C k
 
   abbrev Ch : Type 0
-  Ch = Made next m calls
+  Ch = Change next m calls
 
-  -- a task that makes a step is one of the table's, so the clauses know its place
-  stepper : (k t : ℕ) → Steps next m calls k t → t < m .p
-  stepper k t P = subst (λ p. t < p) (R .same-p k)
-      (subst (λ t. t < M k .p) (P .by) (obeyed (M k) (calls k) _ (step-passes m calls R k t P) .0))
+  its-work : (c : Ch) (k : ℕ) (v : Bool) (B : Verdict next m calls c k v) → Works (c .number) (B .after) (place next m calls k (B .by))
+  its-work c k v B = works _ _ _ _ v (B .brings)
 
-  known-at : (k t : ℕ) → Steps next m calls k t → At (S C k) (H k) (taskAt (M k) t .cells) (place next m calls k t)
-  known-at k t P = place-known m calls R k t (stepper k t P)
+  -- so the clauses know its place, and the change is live
+  known-at : (c : Ch) (k : ℕ) (v : Bool) (B : Verdict next m calls c k v)
+      → At (S C k) (H k) (taskAt (M k) (B .by) .cells) (place next m calls k (B .by))
+  known-at c k v B = place-known m calls R k (B .by) (worker m calls R k (B .by) (c .number) (B .after) (its-work c k v B))
 
   verdict-live : (c : Ch) (k : ℕ) (v : Bool) → Verdict next m calls c k v → Live (X C k) (c .number)
-  verdict-live c k v B = works-live m calls R k (B .by) (stepper k (B .by) (B .steps)) (c .number) (names _ _ _ _ v (B .brings))
-      (nonzero (S C k) (H k) _ _ _ _ _ v (B .brings) (known-at k (B .by) (B .steps)))
+  verdict-live c k v B = worked-on m calls R k (B .by) (c .number) (B .after) (its-work c k v B)
 
   said-of : (c : Ch) (k : ℕ) (v : Bool) → Verdict next m calls c k v → Tells (S C k) (H k) (c .number) v
   said-of c k v B = tells (S C k) (H k) (c .number) (fine C k .CHANGES (c .number) (verdict-live c k v B)) _ _ _ v (B .brings)
-      (known-at k (B .by) (B .steps))
+      (known-at c k v B)
 
   -- who brings a verdict finds the change ended, or ends it
   pub ended : (c : Ch) (j : ℕ) (v : Bool) → Verdict next m calls c j v → (k : ℕ) → j < k → During next m calls c k → Live (X C k) (c .number)
       → S C k .state (c .number) ≢ InProgress
   unfolding actAt apply
-  ended c j v B k l D live = go (place next m calls j (B .by)) v refl (B .brings) (known-at j (B .by) (B .steps))
+  ended c j v B k l D live = go (place next m calls j (B .by)) v refl (B .brings) (known-at c j v B)
     where
       u : ℕ
       u = c .number
@@ -96,7 +90,8 @@ module _ (m : Machine) (calls : ℕ → Call) (R : Run m calls) where
       after : (q : Place) → place next m calls j (B .by) ≡ q → S C (suc j) ≡ apply (actAt (S C j) q) (S C j)
       after q e = turn C j .shared ∙ ap (λ b. apply b (S C j)) (act-is m calls R j (B .by) (B .steps) ∙ ap (λ q. actAt (S C j) q) e)
 
-      go : (q : Place) (y : Bool) → place next m calls j (B .by) ≡ q → Brings u (B .after) (S C j .frozen u) q y → At (S C j) (H j) (taskAt (M j) (B .by) .cells) q
+      go : (q : Place) (y : Bool) → place next m calls j (B .by) ≡ q → Brings u (B .after) (S C j .frozen u) q y
+          → At (S C j) (H j) (taskAt (M j) (B .by) .cells) q
           → S C k .state u ≢ InProgress
       go q y e (at-h3 f) h = on j (le-refl _) (omega arith) (λ z. ⊎-elim (λ (y : S C j .state u ≡ Committed). CI y z)
           (λ y. lost-frozen (S C j) (H j) u (fine C j .CHANGES u (verdict-live c j v B)) y f) (h .1))
@@ -107,7 +102,8 @@ module _ (m : Machine) (calls : ℕ → Call) (R : Run m calls) where
   pub yes-after : (c : Ch) (k : ℕ) → Verdict next m calls c k true → (j : ℕ) × (j < k) × Effect next m calls c j
   yes-after c k B =
       let D = B .during in
-      let (j, a, b, E) = happened C (c .start) (c .number) (terms m calls R c) (makes m calls R c) k (D .later) (alone m calls R c k D) (said-of c k true B) in
+      let (j, a, b, E) = happened C (c .start) (c .number) (terms m calls R c) (makes m calls R c) k (D .later)
+      (alone m calls R c k D) (said-of c k true B) in
       (j, b, effect m calls R c j (during m calls R c j a (λ i p q. alone m calls R c k D i p (omega arith))) E)
 
   -- "no only if there never is one"
@@ -122,21 +118,10 @@ module _ (m : Machine) (calls : ℕ → Call) (R : Run m calls) where
   agree c j k true false B W = let (i, l, E) = yes-after c j B in absurd (no-never c k W i E)
   agree c j k false true B W = let (i, l, E) = yes-after c k W in absurd (no-never c j B i E)
 
-  -- a live number has its change
-  pub change-at : (k u : ℕ) → Live (X C k) u → (c : Ch) × (c .number ≡ u) × During next m calls c k
-  change-at k u l =
-      let (s, h, B, W) = born C k u l in
-      let (c, e, q) = change-of m calls R s u B in (
-        c,
-        q,
-        during m calls R c k (subst (λ s. s < k) (sym e) h)
-            (λ i a b z. W i (subst (λ s. suc s ≤ i) e a) b (subst (λ u. (t : Terms) × (C .act i ≡ make u t)) q z)),
-      )
-
   -- an H1 that sets an info is a change taking hold
   pub holds : (k x r : ℕ) → r < m .n → Sets C k x r → (d : Ch) × (d .number ≡ x) × Holds next m calls d k r
   holds k x r rl B =
-      let (d, q, D) = change-at k x (B .live) in
+      let (d, q, D) = change-at m calls R k x (B .live) in
       let (P, at) = held (M k) (calls k) x (B .i) (B .act) in
       let T : S C k .terms x ≡ terms m calls R d =
       subst (λ x. S C k .terms x ≡ terms m calls R d) q (since-start C (d .start) (d .number) (terms m calls R d) k (makes m calls R d) (D .later)

@@ -1,7 +1,7 @@
 -- Who works on a change goes on, or finishes by a step of its own with a verdict on it; and no start takes the number of that change.
 use Prim.Native.Nat.{ℕ, suc, _<_}
 use mathlib.Core.Path.{_≡_, refl, sym, ap, _∙_, subst}
-use mathlib.Core.Bool.{Bool, false, true≢false}
+use mathlib.Core.Bool.{Bool, false}
 use mathlib.Core.Logic.{_⊎_, inl, inr, _≢_, ⊎-elim}
 use mathlib.Core.List.{List}
 use Rattle.rules.specs.Words.{Cell, After, Machine, Place, AskStep, Accepted, Task, Call, Seen, Out}
@@ -11,7 +11,7 @@ use Rattle.rules.specs.Perform.{seen}
 use Rattle.rules.specs.Step.{accessAt, moveAt, step}
 use Rattle.rules.specs.Refuse.{isIdle}
 use Rattle.rules.specs.Next.{next}
-use Rattle.clauses.proofs.Updates.{leb-case}
+use Rattle.clauses.proofs.Updates.{tf}
 use Rattle.clauses.proofs.Memory.{Shared}
 use Rattle.clauses.proofs.History.{Ghost}
 use Rattle.clauses.proofs.Clauses.{At, Live}
@@ -22,11 +22,10 @@ use Rattle.orders.specs.Demand.{before, said, place, Steps, Change, Verd
 use Rattle.orders.proofs.Seen.{saw}
 use Rattle.orders.proofs.Calls.{Passes, next-is, obeyed}
 use Rattle.orders.proofs.Finishes.{Finishing, finishing}
-use Rattle.orders.proofs.Run.{Run, course, inside, place-known, works-live}
+use Rattle.orders.proofs.Run.{Run, course, inside, busy-inside, place-known, works-live}
 use Rattle.orders.proofs.Busy.{by-steps}
-use Rattle.orders.proofs.Changes.{starts}
+use Rattle.orders.proofs.Changes.{starts, change-at}
 use Rattle.orders.proofs.Effects.{step-passes, passed-steps}
-use Rattle.orders.proofs.Verdicts.{change-at}
 
 -- a place of work names its change, which is not 0, and is not idle
 pub works-on : (u : ℕ) (after : After) (q : Place) → Works u after q → (changeOf q ≡ u) × (isIdle q ≡ false)
@@ -91,14 +90,14 @@ module _ (m : Machine) (calls : ℕ → Call) (R : Run m calls) where
       (λ (h : (v : Bool) × Brings u after (s .bit) (place next m calls k t) v × (moveAt (M k) t .place ≡ leads after v)
       × (moveAt (M k) t .answer ≡ answers after v)).
       inr (h .0, sees (S C k) s u after _ (h .0) (saw (M k) (R .shaped k) t tl) (h .1), h .2, h .3))
-      (finishing u after (place next m calls k t) W s (changeAt (M k) (changeOf (place next m calls k t))) (linkAt (M k) t (recordOf (accessAt (M k) t)) .info))
+      (finishing u after (place next m calls k t) W s (changeAt (M k) (changeOf (place next m calls k t)))
+      (linkAt (M k) t (recordOf (accessAt (M k) t)) .info))
 
   -- who works is a task of the table, and what it works on is live
-  worker : (k t u : ℕ) (after : After) → Works u after (place next m calls k t) → t < m .p
-  worker k t u after W =
-      ⊎-elim (λ h. absurd (true≢false (sym (ap isIdle (R .past k t h)) ∙ works-on u after _ W .1))) (λ l. l) (leb-case (m .p) t)
+  pub worker : (k t u : ℕ) (after : After) → Works u after (place next m calls k t) → t < m .p
+  worker k t u after W = busy-inside m calls R k t (λ i. tf (ap isIdle i) (works-on u after _ W .1))
 
-  worked-on : (k t u : ℕ) (after : After) → Works u after (place next m calls k t) → Live (X C k) u
+  pub worked-on : (k t u : ℕ) (after : After) → Works u after (place next m calls k t) → Live (X C k) u
   worked-on k t u after W = let l = worker k t u after W in
       works-live m calls R k t l u (works-on u after _ W .0)
       (works-nonzero (S C k) (history C k) _ u after _ W (place-known m calls R k t l))
