@@ -7,15 +7,14 @@ use mathlib.Core.Bool.{true}
 use mathlib.Core.List.{_∷_, _++_}
 use lib.Dec.{eqb}
 use borrow.Author.Tests.{ltb-true, eqb-true}
-use Rattle.rules.specs.Words.{Own, H1, Machine, Call, Out, AskScx, Snapshot}
-use Rattle.table.specs.Table.{changeAt}
+use Rattle.rules.specs.Words.{Own, Machine, Call, Out, AskScx, Snapshot}
 use Rattle.rules.specs.Claim.{allBelow}
-use Rattle.orders.specs.Demand.{at-h8, Brings, before, place, said, Change, Closes, Verdict}
+use Rattle.orders.specs.Demand.{at-h8, said, Change, Closes, Verdict}
 use Rattle.bounds.specs.Bounds.{own, UndisturbedLlx, Bounds}
 use Rattle.forged.specs.Broken.{never-commits}
 use Rattle.forged.proofs.Through.{throughout, throughout-is}
-use Rattle.forged.proofs.Events.{begun, starts, goes-on, steps, verdict}
-use Rattle.forged.proofs.Without.{only, only-start}
+use Rattle.forged.proofs.Events.{begun, starts, goes-on, verdict}
+use Rattle.forged.proofs.OneChange.{only, same-call, same-verdict}
 use Rattle.forged.proofs.Script.{computed, table, script, A, B, goes, reads, writes, just}
 use Rattle.rules.specs.Next.{next, llx}
 
@@ -26,12 +25,11 @@ no-bit (suc i) l h = omega arith
 unfoldable pub left-open : ℕ → Call
 left-open = script (reads A 0 ++ (writes A 0 7 ∷ goes A 4) ++ (llx B 0 ∷ goes B 12))
 
--- of any machine x on which A's change takes its number and brings a yes at call 14
-module _ (x : Machine → Call → Out) (the : Change x table left-open) (takes : place x table left-open 11 A ≡ H1 (the .number) 0 Own)
-    (its : Verdict x table left-open the 14 true) where
-  one : allBelow 25 (only x table left-open 10) ≡ true
+-- of any machine x on which A's change, started at 10, brings a yes at call 14
+module _ (x : Machine → Call → Out) (the : Change x table left-open) (at-10 : the .start ≡ 10) (its : Verdict x table left-open the 14 true) where
+  one : allBelow 25 (only x table left-open (the .start)) ≡ true
   unfolding computed left-open
-  one = refl
+  one = rw at-10 refl
 
   all-B : throughout x table left-open (λ j m. eqb (left-open j .task) B) 15 25 ≡ true
   unfolding computed left-open
@@ -39,40 +37,9 @@ module _ (x : Machine → Call → Out) (the : Change x table left-open) (takes 
 
   -- any change of the run is that one
   module _ (c : Change x table left-open) (l : c .start < 25) where
-    at-10 : c .start ≡ 10
-    at-10 = only-start 10 25 one c l
-
-    asked : left-open 10 ≡ record { task = c .task; ask = AskScx (c .n) (c .closing) (c .written) (c .field) (c .new); list = c .list }
-    asked = ap left-open (sym at-10) ∙ c .asks
-
     same-ask : AskScx 1 0 0 0 7 ≡ AskScx (c .n) (c .closing) (c .written) (c .field) (c .new)
     unfolding left-open
-    same-ask = ap (λ (e : Call). e .ask) asked
-
-    same-task : c .task ≡ A
-    unfolding left-open
-    same-task = sym (ap (λ (e : Call). e .task) asked)
-
-    same-number : c .number ≡ the .number
-    same-number =
-        let q : H1 (the .number) 0 Own ≡ H1 (c .number) 0 Own =
-        sym takes ∙ subst (λ s. place x table left-open (suc s) A ≡ H1 (c .number) 0 Own) at-10
-        (subst (λ t. place x table left-open (suc (c .start)) t ≡ H1 (c .number) 0 Own) same-task (c .takes)) in
-        cc
-
-    its-verdict : Verdict x table left-open c 14 true
-    its-verdict = record {
-      during = record {
-        later = omega (arith, at-10);
-        alone = λ d a b e. let z = only-start 10 25 one d (omega arith) in omega (arith, at-10);
-      };
-      by = its .by;
-      after = its .after;
-      steps = its .steps;
-      brings = subst (λ u. Brings u (its .after) (changeAt (before x table left-open 14) u .frozen) (place x table left-open 14 (its .by)) true)
-          (sym same-number) (its .brings);
-      ends = its .ends;
-    }
+    same-ask = ap (λ (e : Call). e .ask) (ap left-open (sym at-10) ∙ same-call the c 25 one l)
 
     closes-not : Closes x table left-open c 0 → ⊥
     closes-not (i, h, q, e) =
@@ -83,8 +50,9 @@ module _ (x : Machine → Call → Out) (the : Change x table left-open) (takes 
   undisturbed : UndisturbedLlx x table left-open 15 B 0 25
   undisturbed = record {
     not-closed = λ c j l E. closes-not c (omega (arith, E .during .later));
-    not-held = λ c j l H. (14, true, ltb-true 14 15 refl, its-verdict c (omega (arith, H .during .later)));
-    since-start = λ c j a b n H. n (eqb-true (left-open j .task) B (throughout-is x table left-open (λ j m. eqb (left-open j .task) B) 15 25 all-B j a b));
+    not-held = λ c j l H. (14, true, ltb-true 14 15 refl, same-verdict the c 25 one (omega (arith, H .during .later)) 14 true its);
+    since-start = λ c j a b n H. n (eqb-true (left-open j .task) B
+        (throughout-is x table left-open (λ j m. eqb (left-open j .task) B) 15 25 all-B j a b));
   }
 
 -- the rules' own machine: the LLX ends with its 9th own step

@@ -1,45 +1,28 @@
--- no-because, a link that an LLX does not renew: A reads 0, B changes it, A reads it again; A's SCX answers no by its old link, and nobody
--- took hold since the second read.
-use Prim.Native.Nat.{ℕ, suc, _<_}
+-- A machine whose LLX does not renew the link fails demand 3, in no-because: A reads 0, B changes it, A reads it again; A's SCX answers no
+-- by its old link, and nobody took hold since the second read.
+use Prim.Native.Nat.{ℕ, _<_}
 use native.Mathlib.Omega.{arith}
-use mathlib.Core.Path.{_≡_, refl, sym, ap, _∙_, subst}
+use mathlib.Core.Path.{_≡_, refl, subst}
 use mathlib.Core.Logic.{⊎-elim}
-use mathlib.Core.Bool.{true, false, not}
+use mathlib.Core.Bool.{true, false}
 use mathlib.Core.List.{_∷_, _++_}
-use borrow.Author.Tests.{ltb-true, ne-eqb}
+use borrow.Author.Tests.{ltb-true}
 use Rattle.rules.specs.Words.{Call, Own}
 use Rattle.rules.specs.Next.{llx}
 use Rattle.clauses.proofs.Updates.{leb-case}
-use Rattle.orders.specs.Demand.{at-h4, before, info, named, Change, Holds, Snap, LinkedRead, Verdict, Demand3}
+use Rattle.orders.specs.Demand.{at-h4, named, Change, Holds, Snap, LinkedRead, Verdict, Demand3}
 use Rattle.forged.specs.Broken.{cached}
-use Rattle.table.specs.Table.{cellAt, recordAt}
-use Rattle.forged.proofs.Tests.{sameList, same-list}
-use Rattle.forged.proofs.Through.{silent, silent-is}
-use Rattle.forged.proofs.Events.{busy, starts, goes-on, begun, steps, verdict}
-use Rattle.forged.proofs.Without.{moves}
+use Rattle.forged.proofs.Through.{silent}
+use Rattle.forged.proofs.Events.{snap, begun, verdict}
+use Rattle.forged.proofs.Without.{moves, nobody-holds}
 use Rattle.forged.proofs.Script.{computed, table, script, A, B, goes, reads, just, writes}
 
 unfoldable pub reread : ℕ → Call
 reread = script (reads A 0 ++ reads B 0 ++ (writes B 0 7 ∷ goes B 4) ++ (llx A 0 ∷ goes A 8) ++ (writes A 0 9 ∷ goes A 4))
 
-at-work : busy cached table reread A 25 33 ≡ true
-unfolding computed table reread cached
-at-work = refl
-
-told : sameList (cached (before cached table reread 33) (reread 33) .cells) (recordAt (before cached table reread 33) 0 .cells) ≡ true
-unfolding computed table reread cached
-told = refl
-
 second-read : Snap cached table reread 33 A 0
 unfolding computed table reread cached
-second-read = record {
-  start = 25;
-  starts = starts cached table reread refl refl;
-  going = goes-on cached table reread A 25 33 refl at-work;
-  steps = steps cached table reread 33 A (refl, refl);
-  answer = refl;
-  tells = λ f l. ap (λ cs. cellAt cs f) (same-list (cached (before cached table reread 33) (reread 33) .cells) (recordAt (before cached table reread 33) 0 .cells) told);
-}
+second-read = snap cached table reread A 0 25 33 refl refl refl refl (refl, refl) refl refl
 
 quiet : silent cached table reread (moves cached table reread 0) 32 38 ≡ true
 unfolding computed table reread cached
@@ -53,14 +36,9 @@ answers-no : Verdict cached table reread second 38 false
 unfolding computed table reread cached
 answers-no = verdict second 38 A Own false refl (refl, refl) at-h4 (refl, refl)
 
-nobody : (d : Change cached table reread) (h : ℕ) → 32 < h → h < 38 → Holds cached table reread d h 0 → ⊥
-unfolding before
-nobody d h l1 l2 H = silent-is cached table reread (moves cached table reread 0) 32 38 quiet h l1 l2
-    (ap not (ne-eqb (info cached table reread (suc h) 0) (info cached table reread h 0) (λ same. H .alters (sym same ∙ H .takes))))
-
-only : (i : ℕ) → i < second .n → named cached table reread second i ≡ 0
+only-0 : (i : ℕ) → i < second .n → named cached table reread second i ≡ 0
 unfolding second
-only i l = let z : i ≡ 0 = omega arith in rw z refl
+only-0 i l = let z : i ≡ 0 = omega arith in rw z refl
 
 late : (e : ℕ) → LinkedRead cached table reread second 0 e → 32 < e
 unfolding second
@@ -69,5 +47,6 @@ late e R = ⊎-elim (λ l. absurd (R .last 33 (omega arith) (ltb-true 33 34 refl
 pub cached-fails : Demand3 cached table reread → ⊥
 cached-fails D =
     let (d, i, e, h, l, R, l1, l2, other, H) = D .no-because second 38 answers-no in
-    let z = only i l in
-    nobody d h (omega (arith, late e (subst (λ r. LinkedRead cached table reread second r e) z R))) l2 (subst (λ r. Holds cached table reread d h r) z H)
+    let z = only-0 i l in
+    nobody-holds 0 32 38 quiet d h (omega (arith, late e (subst (λ r. LinkedRead cached table reread second r e) z R))) l2
+    (subst (λ r. Holds cached table reread d h r) z H)

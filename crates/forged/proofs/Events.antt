@@ -82,6 +82,21 @@ module _ (next : Machine → Call → Out) (m : Machine) (calls : ℕ → Call) 
         busy = λ j l1 l2 i. true≢false (sym (throughout-is next m calls _ s (suc k) b j l1 (omega arith)) ∙ ap (λ q. not (isIdle q)) i);
       }
 
+  pub snap : (t r s e : ℕ) → calls s ≡ llx t r → said next m calls s ≡ Accepted → ltb s e ≡ true → busy t s e ≡ true
+      → going e t → said next m calls e ≡ Snapshot
+      → sameList (next (before next m calls e) (calls e) .cells) (recordAt (before next m calls e) r .cells) ≡ true
+      → Snap next m calls e t r
+  snap t r s e asks acc l b g x same =
+      let told = next (before next m calls e) (calls e) .cells in
+      record {
+        start = s;
+        starts = starts asks acc;
+        going = goes-on t s e l b;
+        steps = steps e t g;
+        answer = x;
+        tells = λ f l. ap (λ cs. cellAt cs f) (same-list told (recordAt (before next m calls e) r .cells) same);
+      }
+
   abbrev pub begun : (start task n : ℕ) (list : List ℕ) (r written field new number : ℕ)
       → calls start ≡ scx task n list r written field new
       → said next m calls start ≡ Accepted → place next m calls (suc start) task ≡ H1 number 0 Own → Change next m calls
@@ -195,19 +210,13 @@ module _ {next : Machine → Call → Out} {m : Machine} {calls : ℕ → Call} 
       → LinkedRead next m calls c r e
   linked c r s e asks acc f b l g x only stands tells =
       let y = before next m calls (suc e) in
-      let link : (j : ℕ) → e < j → j ≤ c .start → (linkAt (before next m calls j) (c .task) r .there ≡ true) × (linkAt (before next m calls j) (c .task) r ≡ linkAt y (c .task) r) =
+      let link : (j : ℕ) → e < j → j ≤ c .start
+      → (linkAt (before next m calls j) (c .task) r .there ≡ true) × (linkAt (before next m calls j) (c .task) r ≡ linkAt y (c .task) r) =
       λ j l1 l2. same-link (linkAt (before next m calls j) (c .task) r) (linkAt y (c .task) r)
       (throughout-is next m calls (stays next m calls (c .task) r y) e (suc (c .start)) stands j l1 (omega arith)) in
       record {
         before-start = ltb-true e (c .start) l;
-        ends = record {
-          start = s;
-          starts = starts next m calls asks acc;
-          going = goes-on next m calls (c .task) s e f b;
-          steps = steps next m calls e (c .task) g;
-          answer = x;
-          tells = λ f l. ap (λ cs. cellAt cs f) (same-list (next (before next m calls e) (calls e) .cells) (recordAt (before next m calls e) r .cells) tells);
-        };
+        ends = snap next m calls (c .task) r s e asks acc f b g x tells;
         there = link (suc e) (omega arith) (ltb-true e (c .start) l) .0;
         stands = λ j l1 l2. link j l1 l2 .1;
         last = λ j l1 l2 h. silent-is next m calls (snaps next m calls (c .task) r) e (c .start) only j l1 l2 (snaps-is (c .task) r j h);

@@ -2,19 +2,21 @@
 -- And a machine whose LLX begins again at L6 exceeds them: B changes 0 each time that A comes there.
 use Prim.Native.Nat.{ℕ, suc, _<_}
 use native.Mathlib.Omega.{arith}
-use mathlib.Core.Path.{_≡_, refl, sym, _∙_}
-use mathlib.Core.Bool.{Bool, true, false, true≢false}
+use mathlib.Core.Path.{_≡_, refl, ap, subst}
+use mathlib.Core.Bool.{Bool, true, not}
 use mathlib.Core.List.{List, _∷_, _++_}
 use lib.Dec.{eqb}
-use borrow.Author.Tests.{eqb-true, ne-eqb}
+use borrow.Author.Tests.{ne-eqb}
 use Rattle.rules.specs.Words.{Idle, Machine, Ask, AskLlx, AskScx, AskVlx, AskRead, Call, Snapshot, Yes}
-use Rattle.table.specs.Table.{pick, recordAt}
+use Rattle.rules.specs.Claim.{both}
+use Rattle.rules.proofs.Exact.{both-on}
 use Rattle.rules.specs.Next.{next, llx, vlx, read}
-use Rattle.orders.specs.Demand.{before, said, place, info, named, Starts, Going, Change, Holds}
+use Rattle.orders.specs.Demand.{before, said, place, named, Starts, Going, Change, Holds}
 use Rattle.bounds.specs.Bounds.{own, UndisturbedScx, UndisturbedLlx, Bounds}
 use Rattle.forged.specs.Broken.{begins-again}
-use Rattle.forged.proofs.Through.{throughout, throughout-is}
+use Rattle.forged.proofs.Through.{silent, silent-is}
 use Rattle.forged.proofs.Events.{starts, goes-on, begun}
+use Rattle.forged.proofs.Without.{moves, hold-moves, nobody-holds}
 use Rattle.forged.proofs.Script.{computed, table, script, A, B, goes, reads, writes, closes, just}
 
 unfoldable pub between : ℕ → Call
@@ -50,36 +52,23 @@ unfolding computed table between own
 read-speaks = (starts next table between refl refl, goes-on next table between B 25 26 refl refl, refl, refl)
 
 -- undisturbed: until the SCX nobody alters the info of 0, and then nobody but A
-abbrev kept : ℕ → Machine → Bool
-kept j x = eqb (recordAt (next x (between j) .m) 0 .info) (recordAt x 0 .info)
+abbrev others-move : ℕ → Machine → Bool
+others-move j x = both (not (eqb (between j .task) A)) (moves next table between 0 j x)
 
-before-scx : throughout next table between kept 0 20 ≡ true
+before-scx : silent next table between (moves next table between 0) 0 20 ≡ true
 unfolding computed table between
 before-scx = refl
 
-during-scx : throughout next table between (λ j x. pick (eqb (between j .task) A) true (kept j x)) 20 30 ≡ true
+during-scx : silent next table between others-move 20 30 ≡ true
 unfolding computed table between
 during-scx = refl
-
-info-kept : (j : ℕ) → kept j (before next table between j) ≡ true → info next table between (suc j) 0 ≡ info next table between j 0
-unfolding before
-info-kept j h = eqb-true _ _ h
-
--- where the info stays, nobody takes hold
-nobody : (c : Change next table between) (j r : ℕ) → r ≡ 0 → info next table between (suc j) 0 ≡ info next table between j 0
-    → Holds next table between c j r → ⊥
-nobody c j r z e H = H .alters (rw z (sym e) ∙ H .takes)
-
-not-own : (b x : Bool) → b ≡ false → pick b true x ≡ true → x ≡ true
-not-own true x e h = absurd (true≢false e)
-not-own false x e h = h
 
 pub undisturbed-llx-speaks : UndisturbedLlx next table between 0 A 0 20
 undisturbed-llx-speaks =
     record {
       not-closed = λ c j l. absurd (omega arith);
       not-held = λ c j l. absurd (omega arith);
-      since-start = λ c j l1 l2 n H. nobody c j 0 refl (info-kept j (throughout-is next table between kept 0 20 before-scx j l1 l2)) H;
+      since-start = λ c j l1 l2 n H. nobody-holds 0 0 20 before-scx c j l1 l2 H;
     }
 
 abbrev pub change : Change next table between
@@ -94,11 +83,11 @@ pub undisturbed-scx-speaks : UndisturbedScx next table between change 30
 unfolding change
 undisturbed-scx-speaks =
     record {
-      since-read = λ d i e j l R l1 l2 H. nobody d j (named next table between change i) (only-0 i l)
-          (info-kept j (throughout-is next table between kept 0 20 before-scx j (omega arith) l2)) H;
-      since-start = λ d i j l l1 l2 n H. nobody d j (named next table between change i) (only-0 i l)
-          (info-kept j (not-own (eqb (between j .task) A) (kept j (before next table between j)) (ne-eqb (between j .task) A n)
-          (throughout-is next table between (λ j x. pick (eqb (between j .task) A) true (kept j x)) 20 30 during-scx j l1 l2))) H;
+      since-read = λ d i e j l R l1 l2 H. nobody-holds 0 0 20 before-scx d j (omega arith) l2
+          (subst (λ r. Holds next table between d j r) (only-0 i l) H);
+      since-start = λ d i j l l1 l2 n H. silent-is next table between others-move 20 30 during-scx j l1 l2
+          (both-on (not (eqb (between j .task) A)) (moves next table between 0 j (before next table between j)) (ap not (ne-eqb (between j .task) A n))
+          (hold-moves d j 0 (subst (λ r. Holds next table between d j r) (only-0 i l) H)));
     }
 
 -- llx: 39 own steps, and no end
@@ -111,6 +100,7 @@ chased = script ((llx A 0 ∷ round 6) ++ round 7 ++ round 8 ++ round 9 ++ goes 
 pub begins-again-fails : Bounds begins-again table chased → ⊥
 unfolding computed table chased begins-again own
 begins-again-fails D =
-    let l : own begins-again table chased 0 A 100 < 39 = D .llx 0 A 0 100 (starts begins-again table chased refl refl) (goes-on begins-again table chased A 0 100 refl refl) in
+    let l : own begins-again table chased 0 A 100 < 39 =
+    D .llx 0 A 0 100 (starts begins-again table chased refl refl) (goes-on begins-again table chased A 0 100 refl refl) in
     let z : own begins-again table chased 0 A 100 ≡ 39 = refl in
     omega arith

@@ -4,6 +4,7 @@ pub mod Through
 pub mod Events
 pub mod Script
 pub mod Without
+pub mod OneChange
 pub mod Speaks
 pub mod Verdicts
 pub mod Mistakes

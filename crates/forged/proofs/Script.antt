@@ -19,7 +19,8 @@ use Rattle.forged.proofs.Through.{scan}
 
 -- whoever opens this opens the machine, the patched machine and the run
 unfoldable pub computed : Unit {0}
-unfolding tabulate sameCell freshRecords freshMachine fresh seen perform dropFirst settle accessAt moveAt step both given allBelow shape inShape start linkedAt rulesOf refused started next stepBy nextBy before scan sameList sameLink
+unfolding tabulate sameCell freshRecords freshMachine fresh seen perform dropFirst settle accessAt moveAt step both given allBelow shape inShape
+    start linkedAt rulesOf refused started next stepBy nextBy before scan sameList sameLink
 computed = tt
 
 -- tasks A and B, records 0 and 1, all values 5

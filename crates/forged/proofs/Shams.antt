@@ -14,7 +14,8 @@ use Rattle.orders.specs.Demand.{at-h4, at-h8, h4, cell, spot, Change, Effect, D
 use Rattle.forged.specs.Places.{isH}
 use Rattle.forged.specs.Broken.{always-aborts, always-yes, untouching, at-once, yes-to-all}
 use Rattle.forged.proofs.Events.{begun, verdict}
-use Rattle.forged.proofs.Without.{idle-works, effect-at, no-effect, said-no, only-start}
+use Rattle.forged.proofs.Without.{idle-works, effect-at, no-effect, said-no}
+use Rattle.forged.proofs.OneChange.{only-start}
 use Rattle.forged.proofs.Script.{computed, table, script, A, B, goes, reads, just, writes}
 
 -- A reads 0 and makes a change of it, alone

@@ -15,9 +15,9 @@ use Rattle.clauses.proofs.SameCell.{same-eq, eq-same}
 pub not-refused : (a : Answer) → isRefusal a ≡ false → (why : Refusal) → a ≢ Refused why
 not-refused a h why e = true≢false (rw e at h)
 
-pub picked : (b x : Bool) → b ≡ true → pick b x true ≡ true → x ≡ true
-picked true x e h = h
-picked false x e h = absurd (false≢true e)
+pub implied : (b x : Bool) → b ≡ true → pick b x true ≡ true → x ≡ true
+implied true x e h = h
+implied false x e h = absurd (false≢true e)
 
 pub not-same : (a b : Cell) → sameCell a b ≡ false → a ≢ b
 not-same a b h e = true≢false (sym (eq-same a b e) ∙ h)

@@ -2,21 +2,23 @@
 use Prim.Native.Nat.{ℕ, suc, _<_, _≤_}
 use native.Mathlib.Omega.{arith}
 use mathlib.Core.Path.{_≡_, refl, sym, ap, subst, _∙_}
-use mathlib.Core.Logic.{_≢_}
+use mathlib.Core.Logic.{_≢_, ⊎-elim}
 use mathlib.Core.Bool.{Bool, true, false, not, true≢false, false≢true}
-use lib.Dec.{eqb, leb}
-use borrow.Author.Tests.{eqb-true, eq-eqb, ne-eqb, leb-true, leb-false}
+use lib.Dec.{eqb}
+use borrow.Author.Tests.{eq-eqb, ne-eqb}
 use Rattle.rules.specs.Words.{Cell, After, Own, Place, H7, No, Machine, Call, Out}
 use Rattle.table.specs.Table.{pick, recordAt, taskAt, sameCell}
 use Rattle.rules.specs.Claim.{both, allBelow}
 use Rattle.rules.proofs.Exact.{both-on, all-is}
 use Rattle.rules.specs.Access.{changeOf}
 use Rattle.rules.specs.Refuse.{isIdle}
-use Rattle.orders.specs.Demand.{answers, Brings, at-h3, at-h4, at-h8, Works, h1, h2, h3, h4, h5, h6, h7, h8}
+use Rattle.orders.specs.Demand.{answers, Brings, at-h3, at-h4, at-h8, Works}
 use Rattle.orders.specs.Demand.{before, said, place, cell, info, Change, named, spot, Effect, Holds, LinkedRead, Verdict}
+use Rattle.orders.proofs.Working.{works-on}
+use Rattle.clauses.proofs.Updates.{leb-case}
 use Rattle.clauses.proofs.SameCell.{same-eq}
-use Rattle.forged.specs.Places.{isH, afterOf, isScx}
-use Rattle.forged.proofs.Tests.{picked}
+use Rattle.forged.specs.Places.{isH, afterOf}
+use Rattle.forged.proofs.Tests.{implied}
 use Rattle.forged.proofs.Through.{scan, scan-is, silent, silent-is}
 use Rattle.forged.proofs.Events.{kept, snaps, snaps-is}
 
@@ -44,24 +46,11 @@ module _ (next : Machine → Call → Out) (m : Machine) (calls : ℕ → Call) 
   abbrev pub unmoved : Change next m calls → ℕ → ℕ → ℕ → Machine → Bool
   unmoved c k r e x = pick (snaps next m calls (c .task) r e x) (silent next m calls (moves r) e k) true
 
-  -- call j starts no SCX, or it is call k
-  abbrev pub only : ℕ → ℕ → Bool
-  only k j = pick (isScx (calls j .ask)) (eqb j k) true
-
--- what a step tells of who made it: an effect comes from H7; the verdict of an H4 is no
-idle-works-not : {u : ℕ} {after : After} {q : Place} → Works u after q → isIdle q ≡ false
-idle-works-not h1 = refl
-idle-works-not h2 = refl
-idle-works-not h3 = refl
-idle-works-not h4 = refl
-idle-works-not h5 = refl
-idle-works-not h6 = refl
-idle-works-not h7 = refl
-idle-works-not h8 = refl
-
+-- who works is not idle
 pub idle-works : {u : ℕ} {after : After} {q : Place} → Works u after q → isIdle q ≡ true → ⊥
-idle-works w e = true≢false (sym e ∙ idle-works-not w)
+idle-works {u} {after} {q} w e = true≢false (sym e ∙ works-on u after q w .1)
 
+-- the verdict of an H4 is no
 brings-no : {u : ℕ} {after : After} {frozen b : Bool} {q : Place} → Brings u after frozen q b → isH 4 q ≡ true → afterOf q ≡ Own
     → answers after b ≡ No
 brings-no (at-h3 f) e o = absurd (false≢true e)
@@ -92,6 +81,15 @@ module _ {next : Machine → Call → Out} {m : Machine} {calls : ℕ → Call} 
       ∙ brings-no (v .brings) (subst (λ t. isH 4 (place next m calls k t) ≡ true) (v .steps .by) e)
       (subst (λ t. afterOf (place next m calls k t) ≡ Own) (v .steps .by) o)
 
+  -- a hold alters the info, so where it stays nobody takes hold
+  pub hold-moves : (d : Change next m calls) (h r : ℕ) → Holds next m calls d h r → moves next m calls r h (before next m calls h) ≡ true
+  unfolding before
+  hold-moves d h r H = ap not (ne-eqb (info next m calls (suc h) r) (info next m calls h r) (λ same. H .alters (sym same ∙ H .takes)))
+
+  pub nobody-holds : (r a k : ℕ) → silent next m calls (moves next m calls r) a k ≡ true
+      → (d : Change next m calls) (h : ℕ) → a < h → h < k → Holds next m calls d h r → ⊥
+  nobody-holds r a k q d h l1 l2 H = silent-is next m calls (moves next m calls r) a k q h l1 l2 (hold-moves d h r H)
+
   -- nobody takes hold of a record that c names between the linked read of it and k
   abbrev pub settled : Change next m calls → ℕ → ℕ → Bool
   settled c k i = scan next m calls (unmoved next m calls c k (named next m calls c i)) 0 (c .start) m
@@ -105,26 +103,14 @@ module _ {next : Machine → Call → Out} {m : Machine} {calls : ℕ → Call} 
       let quiet =
       scan-is next m calls (unmoved next m calls c k r) 0 (c .start) (all-is (c .n) (settled c k) u i l) e (omega arith)
       (omega (arith, R .before-start)) in
-      silent-is next m calls (moves next m calls r) e k
-      (picked (snaps next m calls (c .task) r e (before next m calls e)) (silent next m calls (moves next m calls r) e k)
+      nobody-holds r e k
+      (implied (snaps next m calls (c .task) r e (before next m calls e)) (silent next m calls (moves next m calls r) e k)
       (snaps-is (c .task) r e (R .ends)) quiet)
-      h l1 l2
-      (ap not (ne-eqb (info next m calls (suc h) r) (info next m calls h r) (λ same. H .alters (sym same ∙ H .takes))))
-
-  pub only-start : (k n : ℕ) → allBelow n (only next m calls k) ≡ true → (d : Change next m calls) → d .start < n → d .start ≡ k
-  only-start k n h d l =
-      eqb-true (d .start) k
-      (picked (isScx (calls (d .start) .ask)) (eqb (d .start) k) (ap (λ x. isScx (x .ask)) (d .asks))
-      (all-is n (only next m calls k) h (d .start) l))
+      d h l1 l2 H
 
   -- a linked read for c ended no later than k, if none ends between k and the start
   pub read-by : (c : Change next m calls) (r e k : ℕ) → LinkedRead next m calls c r e
       → silent next m calls (snaps next m calls (c .task) r) k (c .start) ≡ true → e ≤ k
-  read-by c r e k R h = go (leb e k) refl
-    where
-      go : (b : Bool) → leb e k ≡ b → e ≤ k
-      go true t = leb-true e k t
-      go false t =
-          absurd
-          (silent-is next m calls (snaps next m calls (c .task) r) k (c .start) h e (leb-false e k t) (R .before-start)
-          (snaps-is (c .task) r e (R .ends)))
+  read-by c r e k R h = ⊎-elim (λ l. l)
+      (λ l. absurd (silent-is next m calls (snaps next m calls (c .task) r) k (c .start) h e l (R .before-start) (snaps-is (c .task) r e (R .ends))))
+      (leb-case e k)

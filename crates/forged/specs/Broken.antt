@@ -1,5 +1,5 @@
--- BROKEN MACHINES: mistakes and shams of document 01, and others that leave one thing out. That each fails demand 3, and in which
--- field, stands in proofs/.
+-- BROKEN MACHINES: mistakes and shams of document 01, and others that leave one thing out. Which of demand 3 and the own-step bounds each
+-- fails, and in which field, stands in proofs/; refuses-all meets demand 3 (proofs/Beyond.antt).
 use Prim.Native.Nat.{ℕ, zero, suc, _+_}
 use mathlib.Core.Bool.{Bool, true, false}
 use mathlib.Core.List.{[]}
