@@ -1,4 +1,4 @@
--- The entry points: the fresh table, the test of the shape, and the calls.
+-- The entry points: the fresh table, the comparisons of cells, the test of the shape, and the calls.
 use mathlib.Core.Path.{sym, _∙_}
 use Rattle.table.proofs.same_cell.Kinds as table-same-cell-kinds
 use Rattle.table.proofs.same_cell.Reads as table-same-cell-reads

@@ -1,4 +1,4 @@
--- The functions on small values, and the turns, that the entry points are made of.
+-- The functions on small values, and the turns, that the entry points are made of; and the numbers of answers and refusals.
 use mathlib.Core.Path.{sym, _∙_}
 use Rattle.four.proofs.number_at.Kinds as four-number-at-kinds
 use Rattle.four.proofs.number_at.Reads as four-number-at-reads

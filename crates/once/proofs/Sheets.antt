@@ -1,4 +1,5 @@
--- Run sheets: the reader, its door, and the writer, which also leaves one content of the lent buffer.
+-- Run sheets: the layout, the initial values, one event, and the writer, which also leaves one content of the lent buffer. The reader that
+-- holds the lent sheet is in Walked.antt.
 use mathlib.Core.Path.{sym, _∙_}
 use denote.Ref.{now}
 use Rattle.sheet.proofs.layout_of.Kinds as sheet-layout-of-kinds

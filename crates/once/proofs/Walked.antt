@@ -1,5 +1,6 @@
--- ONE ANSWER of a function that takes or makes a struct which holds a reference: the checker makes no plain reading of its contract, so here the
--- reading stands beside. `said` has it be what the `ensures` clause says, no more and no less, in every model; `one` is what Once.antt asks.
+-- ONE ANSWER of a function that takes or makes a struct which holds a reference: the checker makes no plain reading of its contract, so here
+-- the reading stands beside. `said` has it be what the `ensures` clause says, no more and no less, in every model; `one` is what Once.antt
+-- asks.
 use mathlib.Core.Path.{_≡_, refl, sym, _∙_}
 use contract.Lifetimes.{Lfts}
 use contract.Monad.{fact}
@@ -15,8 +16,8 @@ use Prim.Native.Nat.{_+_, _%_}
 
 pub record Once (E : Ended) (clauses : (w : World) → Clauses (w .𝓤) E) : Type 2 where
   pub claim : (κs : Lfts (E .signature .lifetimes)) → Args (E .signature) κs → Res (E .signature) κs → AtExit E κs → Type 0
-  pub said : (w : World) (κs : Lfts (E .signature .lifetimes)) (a : Args (E .signature) κs) (g : clauses w κs a .ghost) (o : Res (E .signature) κs) (s : AtExit E κs)
-      → clauses w κs a .ensures g o s ≡ fact (w .𝓤) (claim κs a o s)
+  pub said : (w : World) (κs : Lfts (E .signature .lifetimes)) (a : Args (E .signature) κs) (g : clauses w κs a .ghost)
+      (o : Res (E .signature) κs) (s : AtExit E κs) → clauses w κs a .ensures g o s ≡ fact (w .𝓤) (claim κs a o s)
   pub one : (κs : Lfts (E .signature .lifetimes)) (a : Args (E .signature) κs) (o p : Res (E .signature) κs) (s t : AtExit E κs)
       → claim κs a o s → claim κs a p t → o ≡ p
 
