@@ -17,7 +17,7 @@ use Rattle.clauses.proofs.Updates.{same?, bool?, tf}
 use Rattle.clauses.proofs.Memory.{Shared, apply}
 use Rattle.clauses.proofs.Steps.{termsOf, actAt, Saw}
 use Rattle.clauses.proofs.Course.{Course, S}
-use Rattle.orders.specs.Demand.{before, said, place, Going}
+use Rattle.orders.specs.Demand.{said, place, Going}
 use Rattle.orders.proofs.Busy.{longer}
 use Rattle.orders.proofs.Run.{Run, course}
 use Rattle.orders.proofs.Working.{moved}
@@ -29,9 +29,6 @@ abbrev pub Down : (Shared → Place → ℕ → Type 0) → Answer → ℕ → S
 Down Q x n Z v = ((n ≡ 1) × (v .place ≡ Idle) × (v .answer ≡ x)) ⊎ ((d : ℕ) × (n ≡ suc d) × Q Z (v .place) d)
 
 module _ (m : Machine) (calls : ℕ → Call) (R : Run m calls) (s t : ℕ) (tl : t < m .p) where
-  abbrev M : ℕ → Machine
-  M k = before next m calls k
-
   abbrev C : Course
   C = course m calls R
 

@@ -68,7 +68,7 @@ module _ (C : Course) where
   pub off-live : (k u : ℕ) → Live (X k) u → Off (C .act k) u
   off-live k u l = spared (X k) (X (suc k)) (history k) (fine k) (C .who k) (C .act k) (C .reads k) (turn k) u l .0
 
-  pub live-step : (k u : ℕ) → Live (X (suc k)) u → Live (X k) u ⊎ Starts k u
+  live-step : (k u : ℕ) → Live (X (suc k)) u → Live (X k) u ⊎ Starts k u
   live-step k u l = live-back (X k) (X (suc k)) (history k) (fine k) (C .who k) (C .act k) (C .reads k) (turn k) u l
 
   -- who is live was taken, and has been live since
@@ -87,7 +87,7 @@ module _ (C : Course) where
       )
       go (inr z) ih = (k, omega arith, z, λ i a b. absurd (omega arith))
 
-  pub live-then : (u j k : ℕ) → j ≤ k → Unstarted u j k → Live (X k) u → Live (X j) u
+  live-then : (u j k : ℕ) → j ≤ k → Unstarted u j k → Live (X k) u → Live (X j) u
   live-then u j zero h n l = subst (λ x. Live (X x) u) (omega arith) l
   live-then u j (suc k) h n l = ⊎-elim (λ (e : j ≡ suc k). subst (λ x. Live (X x) u) (sym e) l)
       (λ h. live-then u j k h (λ i a b. n i a (omega arith)) (⊎-elim (λ l. l) (λ z. absurd (n k h (omega arith) z)) (live-step k u l)))

@@ -87,7 +87,7 @@ module _ (X : Table) (G : Ghost) (F : Fine X G) (t r : ℕ) (cs : List Cell) (c 
   k = record { ends = false; at = r }
 
   -- a verdict leads to Idle or L9, where nothing is claimed
-  pub from-verdict : (b : Act) → Guard S G t b → Room X b → (ok : Bool) (w : After) → Leads X G F t r cs c new b (verdict ok w)
+  from-verdict : (b : Act) → Guard S G t b → Room X b → (ok : Bool) (w : After) → Leads X G F t r cs c new b (verdict ok w)
   from-verdict b g m true Own = acts X G F t r cs c new b _ _ g m by-none tt
   from-verdict b g m false Own = acts X G F t r cs c new b _ _ g m by-none tt
   from-verdict b g m true (AtL8 x true) = acts X G F t r cs c new b _ _ g m by-none tt

@@ -1,4 +1,4 @@
--- What an index in the code is below, in a table in shape: the tasks, the records, the changes, and the lists of a step.
+-- What an index in the code is below, in a table in shape: the tasks, the records, and the lists of a step.
 use Prim.Native.Nat.{ℕ, _<_, _≤_}
 use native.Mathlib.Omega.{arith}
 use lib.ListN.{getD}
@@ -19,9 +19,6 @@ module _ (m : Machine) (S : InShape m) where
   pub n≤32 : m .n ≤ 32
   n≤32 = omega (arith, fine m S .n<33)
 
-  pub used<256 : m .used < 256
-  used<256 = fine m S .used<256
-
   module _ (t : ℕ) (tl : t < m .p) where
     pub task<8 : t < 8
     task<8 = omega (arith, p≤8)
@@ -41,9 +38,6 @@ module _ (m : Machine) (S : InShape m) where
         let x = taskAt m t in
         let info = linkAt m t (recordOf (accessAt m t)) .info in
         moves m (fine m S) (λ r. linkAt m t r .there) (x .cells) (x .list) info (x .place) (fine m S .task-fine t tl)
-
-    pub drop≤4 : moveAt m t .drop ≤ 4
-    drop≤4 = moved .drop≤4
 
     pub list<32 : (k : ℕ) → k < moveAt m t .drop → getD (taskAt m t .list) k 0 < 32
     list<32 k q = let b = moved .list-fine k q in omega (arith, n≤32)

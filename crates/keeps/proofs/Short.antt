@@ -30,7 +30,7 @@ lost : inShape (next short (scx 0 1 (0 ∷ []) 0 0 0 0) .m) ≡ false
 unfolding short tabulate dropFirst both given allBelow shape inShape start linkedAt rulesOf started next
 lost = refl
 
-pub no-kept-test : ((m : Machine) (e : Call) → inShape m ≡ true → inShape (next m e .m) ≡ true) → ⊥
+no-kept-test : ((m : Machine) (e : Call) → inShape m ≡ true → inShape (next m e .m) ≡ true) → ⊥
 unfolding short both given allBelow shape inShape
 no-kept-test h = true≢false (sym (h short (scx 0 1 (0 ∷ []) 0 0 0 0) refl) ∙ lost)
 

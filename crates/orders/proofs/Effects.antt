@@ -64,7 +64,7 @@ module _ (m : Machine) (calls : ℕ → Call) (R : Run m calls) where
       (subst (λ (l : List ℕ). getD l i 0 < M (c .start) .n) (by-list m calls R c)
       (obeyed (M (c .start)) (calls (c .start)) _ (passes m calls R c) .1 .1 .1 .0 i h))
 
-  pub written-inside : (c : Ch) → c .written < c .n
+  written-inside : (c : Ch) → c .written < c .n
   written-inside c = obeyed (M (c .start)) (calls (c .start)) _ (passes m calls R c) .1 .1 .1 .1 .1 .0 .0
 
   pub field-inside : (c : Ch) → c .field < 4
@@ -118,7 +118,7 @@ module _ (m : Machine) (calls : ℕ → Call) (R : Run m calls) where
             (cell-is (suc k) (spot next m calls c) (c .field) (spot-inside c) ∙ e ∙ sym (cell-is k (spot next m calls c) (c .field) (spot-inside c))));
       }
 
-  pub effect-of : (k u : ℕ) → Writes C k u → (c : Ch) × (c .number ≡ u) × Effect next m calls c k
+  effect-of : (k u : ℕ) → Writes C k u → (c : Ch) × (c .number ≡ u) × Effect next m calls c k
   effect-of k u E = let (c, q, D) = change-at m calls R k u (write-live C k u E) in (c, q, effect c k D (E ∙ ap write (sym q)))
 
   -- "alters its one field exactly once"

@@ -43,7 +43,7 @@ use Rattle.orders.proofs.Run.{Run, task-in}
 use Rattle.orders.proofs.Turns.{turn-of}
 
 -- the counts of tasks and records never change
-pub same-counts : (m : Machine) (e : Call) → (next m e .m .p ≡ m .p) × (next m e .m .n ≡ m .n)
+same-counts : (m : Machine) (e : Call) → (next m e .m .p ≡ m .p) × (next m e .m .n ≡ m .n)
 unfolding next refused started start step settle perform
 same-counts m e = go (check (rulesOf m e))
   where

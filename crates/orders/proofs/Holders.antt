@@ -15,7 +15,7 @@ use Rattle.clauses.proofs.Course.{Course, X, S, history, fine, Starts, not-take
 use Rattle.clauses.proofs.Came.{Sets, sets-by, Since, info-came}
 use Rattle.clauses.proofs.Closed.{Marked, marked-by}
 use Rattle.clauses.proofs.Sentences.{happened}
-use Rattle.orders.specs.Demand.{before, info, mark, Change, Closes, During, Effect, Holds, Verdict}
+use Rattle.orders.specs.Demand.{info, mark, Change, Closes, During, Effect, Holds, Verdict}
 use Rattle.orders.proofs.Run.{Run, course}
 use Rattle.orders.proofs.Changes.{terms, makes, alone, during}
 use Rattle.orders.proofs.Effects.{bit, is-in, effect}
@@ -25,9 +25,6 @@ not-both : {u i x : ℕ} {c : Terms} {b : Act} → b ≡ hold u i → b ≡ make
 not-both p q = let z : _≡_ {A = ℕ} 0 1 = cc in omega arith
 
 module _ (m : Machine) (calls : ℕ → Call) (R : Run m calls) where
-  abbrev M : ℕ → Machine
-  M k = before next m calls k
-
   abbrev C : Course
   C = course m calls R
 
