@@ -52,7 +52,6 @@ pub record MoveFine (m : Machine) (linked : ℕ → Bool) (cs : List Cell) (l : 
   pub place-fine : (linked' : ℕ → Bool) → (v .drop ≡ 0 → (r : ℕ) → r < m .n → linked r ≡ true → linked' r ≡ true)
       → Claimed m linked' (set cs (v .field) (s .cell)) l (v .place)
   pub link-fine : v .store ≡ true → (s .number ≤ m .used) × Says (m .used) (stampsKnown 4 cs)
-  pub drop≤4 : v .drop ≤ 4
   pub list-fine : (k : ℕ) → k < v .drop → getD l k 0 < m .n
 
 module _ (m : Machine) (F : Fine m) (linked : ℕ → Bool) (cs : List Cell) (l : List ℕ) where
@@ -68,12 +67,11 @@ module _ (m : Machine) (F : Fine m) (linked : ℕ → Bool) (cs : List Cell) (l 
       record {
         place-fine = λ linked' k. relinked (m .used) (m .n) (ch .n) (ch .r) linked (set cs 4 (s .cell)) l linked' (k refl) q h;
         link-fine = λ e. absurd (false≢true e);
-        drop≤4 = zero-le;
         list-fine = none;
       }
 
   done-fine : {s : Seen} (a : Answer) → Moved s (done a)
-  done-fine a = record { place-fine = λ linked' k. tt; link-fine = λ e. absurd (false≢true e); drop≤4 = zero-le; list-fine = none }
+  done-fine a = record { place-fine = λ linked' k. tt; link-fine = λ e. absurd (false≢true e); list-fine = none }
 
   after-l4 : {s : Seen} (r : ℕ) (m1 : Bool) (a : ℕ) (state : State) (m2 : Bool) → (r < m .n) × (a ≤ m .used) → Moved s (on (afterL4 r m1 a state m2))
   after-l4 r m1 a InProgress m2 h = on-fine (L7 r m1 a) h
@@ -90,14 +88,13 @@ module _ (m : Machine) (F : Fine m) (linked : ℕ → Bool) (cs : List Cell) (l 
             (λ e. let f3 = ltb-true f 3 e in (h .0, (h .1 .0, (omega arith, known (f + 1) (omega arith)))))
             (λ e. let f3 = ltb-false f 3 e in (h .0, (h .1 .0, known 4 (omega arith))));
         link-fine = λ e. absurd (false≢true e);
-        drop≤4 = zero-le;
         list-fine = none;
       }
 
   after-l6 : {s : Seen} (r : ℕ) (m1 : Bool) (a : ℕ) → Claimed m linked cs l (L6 r m1 a) → s .number ≤ m .used → Moved s (afterL6 r m1 a (s .number))
   after-l6 {s} r m1 a h c =
       picked (Moved s) (eqb (s .number) a) snapshot (on (L7 r m1 a))
-      (λ e. record { place-fine = λ linked' k. tt; link-fine = λ e. (c, h .1 .1); drop≤4 = zero-le; list-fine = none })
+      (λ e. record { place-fine = λ linked' k. tt; link-fine = λ e. (c, h .1 .1); list-fine = none })
       (λ e. on-fine (L7 r m1 a) (h .0, h .1 .0))
 
   after-l7 : {s : Seen} (r : ℕ) (m1 : Bool) (a : ℕ) (state : State) → (r < m .n) × (a ≤ m .used) → Moved s (afterL7 r m1 a state)
@@ -156,8 +153,7 @@ module _ (m : Machine) (F : Fine m) (linked : ℕ → Bool) (cs : List Cell) (l 
       picked (Moved s) (eqb now info) (pick (ltb (i + 1) n) (on (Vlx n (i + 1))) (done Yes)) (noAndDrop n)
       (λ e. picked (Moved s) (ltb (i + 1) n) (on (Vlx n (i + 1))) (done Yes)
       (λ f. on-fine (Vlx n (i + 1)) (ltb-true (i + 1) n f, h .1)) (λ f. done-fine Yes))
-      (λ e. let k = h .1 .0 .0 .1 in
-      record { place-fine = λ linked' k. tt; link-fine = λ e. absurd (false≢true e); drop≤4 = omega arith; list-fine = h .1 .0 .1 .0 })
+      (λ e. record { place-fine = λ linked' k. tt; link-fine = λ e. absurd (false≢true e); list-fine = h .1 .0 .1 .0 })
 
   -- what is read of a record that exists is known
   info-known : (r : ℕ) → r < m .n → recordAt m r .info ≤ m .used
