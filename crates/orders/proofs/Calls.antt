@@ -33,11 +33,11 @@ pub record Passes (m : Machine) (e : Call) (ask : Ask) : Type 0 where
 -- what is not refused has passed
 pub not-refused : (m : Machine) (e : Call) → ((why : Refusal) → next m e .answer ≢ Refused why) → check (rulesOf m e) ≡ Passed
 unfolding next refused
-not-refused m e h = go (check (rulesOf m e)) refl h
+not-refused m e = go (check (rulesOf m e))
   where
-    go : (c : Check) → check (rulesOf m e) ≡ c → ((why : Refusal) → answered c m e .answer ≢ Refused why) → c ≡ Passed
-    go Passed q h = refl
-    go (Failed why) q h = absurd (h why refl)
+    go : (c : Check) → ((why : Refusal) → answered c m e .answer ≢ Refused why) → c ≡ Passed
+    go Passed h = refl
+    go (Failed why) h = absurd (h why refl)
 
 pub accepts : (m : Machine) (e : Call) → next m e .answer ≡ Accepted → check (rulesOf m e) ≡ Passed
 accepts m e h = not-refused m e (λ why q. let z : Accepted ≡ Refused why = sym h ∙ q in let y : _≡_ {A = ℕ} 0 1 = cc in omega arith)
