@@ -11,19 +11,16 @@ use Rattle.keeps.proofs.Fine.{Fine, fine, in-shape}
 use Rattle.keeps.proofs.Steps.{step-keeps}
 use Rattle.keeps.proofs.Starts.{llx-keeps, vlx-keeps, read-keeps}
 use Rattle.keeps.proofs.Scx.{scx-keeps}
-use Rattle.keeps.proofs.Obeyed.{Obeyed, passed}
+use Rattle.keeps.proofs.Obeyed.{Obeys, passed}
 use Rattle.table.specs.Table.{linkAt}
 use Rattle.rules.specs.Claim.{Says}
 use Rattle.rules.specs.Shape.{listFine, allLinked, shape, inShape, InShape}
-use Rattle.rules.specs.Refuse.{check, rules, idleAt, linkedAt, rulesOf}
+use Rattle.rules.specs.Refuse.{check, linkedAt, rulesOf}
 use Rattle.rules.specs.Next.{refused, started, accepted, answered, next}
 use Rattle.rules.proofs.Exact.{told, passes}
 
-abbrev call : ℕ → Ask → List ℕ → Call
-call t ask l = record { task = t; ask = ask; list = l }
-
 accepted-keeps : (m : Machine) → Fine m → length (m .changes) ≡ 256 → (t : ℕ) (ask : Ask) (l : List ℕ)
-    → Obeyed (rules (m .p) (m .n) (m .used) (idleAt m t) (linkedAt m (call t ask l)) t ask l) → Fine (accepted m t ask l .m)
+    → Obeys m t ask l → Fine (accepted m t ask l .m)
 unfolding started linkedAt
 accepted-keeps m F s t (AskLlx r) l h = llx-keeps m F t (h .0) r l (h .1 .1 .0)
 accepted-keeps m F s t (AskScx n r written field new) l h =

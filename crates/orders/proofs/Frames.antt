@@ -17,12 +17,12 @@ use Rattle.rules.specs.Access.{recordOf}
 use Rattle.rules.specs.Perform.{seen, perform}
 use Rattle.rules.specs.Step.{linkBy, dropFirst, settle, accessAt, moveAt, step}
 use Rattle.rules.specs.Start.{start}
-use Rattle.rules.specs.Refuse.{check, rules, idleAt, linkedAt, rulesOf}
+use Rattle.rules.specs.Refuse.{check, rulesOf}
 use Rattle.rules.specs.Next.{refused, started, accepted, answered, next}
 use Rattle.keeps.proofs.Fine.{Fine, in-shape}
 use Rattle.keeps.proofs.Links.{drop-each, slots-apart, drop-apart}
 use Rattle.keeps.proofs.Bounds.{record<32, list<32}
-use Rattle.keeps.proofs.Obeyed.{Obeyed, passed}
+use Rattle.keeps.proofs.Obeyed.{Obeys, passed}
 use Rattle.clauses.proofs.History.{Reading}
 use Rattle.clauses.proofs.Turn.{Relinked}
 use Rattle.orders.proofs.Stored.{entryIn}
@@ -55,9 +55,6 @@ same-link p n ls later t r h = go (ltb r n) refl
     go false e = refl
 
 module _ (m : Machine) (F : Fine m) where
-  abbrev call : ℕ → Ask → List ℕ → Call
-  call t ask l = record { task = t; ask = ask; list = l }
-
   -- links dropped by a start, to records that exist
   not-dropped : (t : ℕ) (l : List ℕ) (n : ℕ) → ((k : ℕ) → k < n → getD l k 0 < m .n) → (s : ℕ) → s ≢ t → (r : ℕ)
       → linkWithin (m .p) (m .n) (dropFirst (m .links) t l n) s r ≡ linkIn m s r
@@ -65,8 +62,7 @@ module _ (m : Machine) (F : Fine m) where
       same-link (m .p) (m .n) (m .links) (dropFirst (m .links) t l n) s r
       (λ q. drop-apart (m .links) t l n s r d (omega (arith, F .n<33)) (λ k z. omega (arith, h k z, F .n<33)))
 
-  accepted-links : (t : ℕ) (ask : Ask) (l : List ℕ)
-      → Obeyed (rules (m .p) (m .n) (m .used) (idleAt m t) (linkedAt m (call t ask l)) t ask l)
+  accepted-links : (t : ℕ) (ask : Ask) (l : List ℕ) → Obeys m t ask l
       → (s : ℕ) → s ≢ t → (r : ℕ) → linkIn (accepted m t ask l .m) s r ≡ linkIn m s r
   unfolding started start step settle perform
   accepted-links t (AskLlx x) l h s d r = not-dropped t (x ∷ []) 1 one s d r

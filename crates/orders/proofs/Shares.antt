@@ -11,12 +11,12 @@ use Rattle.table.specs.Table.{recordAt, changeAt, taskAt, linkAt}
 use Rattle.rules.specs.Perform.{perform}
 use Rattle.rules.specs.Step.{settle, accessAt, step}
 use Rattle.rules.specs.Start.{filled, start}
-use Rattle.rules.specs.Refuse.{check, rules, idleAt, linkedAt, rulesOf}
+use Rattle.rules.specs.Refuse.{check, rulesOf}
 use Rattle.rules.specs.Next.{refused, started, accepted, answered, next}
 use Rattle.keeps.proofs.Fine.{Fine}
 use Rattle.keeps.proofs.Lengths.{Sized}
 use Rattle.keeps.proofs.Acts.{Claimed, accessFrom, acts}
-use Rattle.keeps.proofs.Obeyed.{Obeyed, passed}
+use Rattle.keeps.proofs.Obeyed.{Obeys, passed}
 use Rattle.clauses.proofs.Memory.{apply}
 use Rattle.clauses.proofs.Steps.{actAt}
 use Rattle.orders.proofs.View.{shared, doing, doneBy, did}
@@ -64,11 +64,7 @@ module _ (m : Machine) (F : Fine m) (Z : Sized m) where
     by-place (Vlx n i) h = reads (m .n) (m .records) (m .changes) (getD l i 0) 0
     by-place (Read r f) h = reads (m .n) (m .records) (m .changes) r 0
 
-  abbrev call : ℕ → Ask → List ℕ → Call
-  call t ask l = record { task = t; ask = ask; list = l }
-
-  by-accepted : (t : ℕ) (ask : Ask) (l : List ℕ)
-      → Obeyed (rules (m .p) (m .n) (m .used) (idleAt m t) (linkedAt m (call t ask l)) t ask l)
+  by-accepted : (t : ℕ) (ask : Ask) (l : List ℕ) → Obeys m t ask l
       → shared (accepted m t ask l .m) ≡ apply (doing m t ask l) (shared m)
   unfolding apply started start step settle perform accessAt
   by-accepted t (AskLlx r) l h = refl

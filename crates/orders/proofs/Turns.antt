@@ -18,12 +18,12 @@ use Rattle.rules.specs.Perform.{seen}
 use Rattle.rules.specs.Step.{accessAt, moveAt, step}
 use Rattle.rules.specs.Start.{filled, start}
 use Rattle.rules.specs.Shape.{allLinked}
-use Rattle.rules.specs.Refuse.{check, rules, idleAt, linkedAt, rulesOf}
+use Rattle.rules.specs.Refuse.{check, linkedAt, rulesOf}
 use Rattle.rules.specs.Next.{refused, started, accepted, answered, next}
 use Rattle.rules.proofs.Exact.{told}
 use Rattle.keeps.proofs.Fine.{Fine}
 use Rattle.keeps.proofs.Lengths.{Sized}
-use Rattle.keeps.proofs.Obeyed.{Obeyed, passed}
+use Rattle.keeps.proofs.Obeyed.{Obeys, passed}
 use Rattle.clauses.proofs.Updates.{upd-hit, same?, leb-case}
 use Rattle.clauses.proofs.Memory.{Terms, apply, Act, nop, make}
 use Rattle.clauses.proofs.History.{Ghost, Reading}
@@ -128,8 +128,7 @@ module _ (m : Machine) (F : Fine m) (Z : Sized m) (G : Ghost) (K : Clauses (view
       subst (λ (y : Task). Advanced (view m) G t nop no-reading (y .cells) (y .place) (linkIn (start m t ask l) t 0)) (sym e)
       (quiet t (y .cells) (y .place) _ (λ z. absurd (z none)) h)
 
-  accepted-known : (t : ℕ) (ask : Ask) (l : List ℕ)
-      → Obeyed (rules (m .p) (m .n) (m .used) (idleAt m t) (linkedAt m (record { task = t; ask = ask; list = l })) t ask l)
+  accepted-known : (t : ℕ) (ask : Ask) (l : List ℕ) → Obeys m t ask l
       → Known t (doing m t ask l) (ending m t ask) (accepted m t ask l .m)
   unfolding started linkedAt
   accepted-known t (AskLlx r) l h = start-known t (AskLlx r) l _ (llx-starts m F Z t (h .0) r l) refl tt
