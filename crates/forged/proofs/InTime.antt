@@ -1,5 +1,6 @@
--- THE BOUNDS SPEAK OF SOMETHING: A's LLX of 0 and its SCX that closes 0 (n = 1, f = 1), with B's LLX of 1 between their steps, take 9 and 5.
--- And a machine whose LLX begins again at L6 exceeds them: B changes 0 each time that A comes there.
+-- THE BOUNDS SPEAK OF SOMETHING: A's LLX of 0 and its SCX that closes 0 (n = 1, f = 1) take 9 and 5, with B's LLX of 1, and then its VLX and
+-- its READ, which take 1 each, between their steps. And a machine whose LLX begins again at L6 exceeds them: B changes 0 each time that A
+-- comes there.
 use Prim.Native.Nat.{ℕ, suc, _<_}
 use native.Mathlib.Omega.{arith}
 use mathlib.Core.Path.{_≡_, refl, ap, subst}

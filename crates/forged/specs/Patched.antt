@@ -1,5 +1,5 @@
 -- A PATCHED MACHINE: starts and refusals are the rules' own, a STEP is patched in what it does, in what it sees, or in where it leads.
--- With no patch it is `next` (`as-the-rules`, proofs/Same.antt). A broken machine is a patch.
+-- With no patch it is `next` (`as-the-rules`, proofs/Same.antt). Most of the broken machines (Broken.antt) are patches.
 use Prim.Native.Nat.{ℕ}
 use mathlib.Core.List.{List}
 use Rattle.rules.specs.Words.{Place, Access, Seen, Move, Machine, Out, Call, Check, Passed, Failed}

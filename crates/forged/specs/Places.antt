@@ -1,4 +1,4 @@
--- Which place a patch is for, and what follows the help that it is in.
+-- Which place a patch is for, what follows the help that it is in, and what a call asks for.
 use Prim.Native.Nat.{ℕ, _+_}
 use mathlib.Core.Bool.{Bool, true, false}
 use lib.Dec.{eqb}

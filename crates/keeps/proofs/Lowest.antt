@@ -1,5 +1,5 @@
 -- "Each is given exactly then, the lowest that applies to the call": a call that fails its check breaks the rule of that refusal and
--- keeps all rules before it, and the numbers of a call's rules rise.
+-- keeps all rules before it, and the numbers of a call's rules rise. They are those that document 01 says it can meet.
 use Prim.Native.Nat.{ℕ}
 use native.Mathlib.Omega.{arith}
 use mathlib.Core.Path.{_≡_, refl, ap}

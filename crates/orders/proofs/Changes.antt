@@ -1,4 +1,5 @@
--- A change of the statement is a number that a call of the course takes, with the terms that the start wrote down.
+-- A change of the statement is a number that a call of the course takes, with the terms that the start wrote down. Every SCX is refused or
+-- is a change.
 use Prim.Native.Nat.{ℕ, suc, _+_, _≤_, _<_}
 use mathlib.Core.Path.{_≡_, refl, sym, ap, _∙_, subst}
 use mathlib.Core.Logic.{_⊎_, inl, inr, _≢_}
@@ -103,7 +104,6 @@ module _ (m : Machine) (calls : ℕ → Call) (R : Run m calls) where
             (λ i a b z. W i (subst (λ s. suc s ≤ i) e a) b (subst (λ u. (t : Terms) × (C .act i ≡ make u t)) q z)),
       )
 
-  -- every SCX is refused or is a change
   pub is-a-change : (k n r written field new : ℕ) → calls k .ask ≡ AskScx n r written field new
       → ((why : Refusal) × (said next m calls k ≡ Refused why)) ⊎ ((c : Ch) × (c .start ≡ k))
   unfolding next refused
