@@ -7,7 +7,7 @@ use mathlib.Core.Path.{_≡_, refl, ap, _∙_}
 use mathlib.Core.Bool.{Bool, true, false}
 use mathlib.Core.List.{List}
 use lib.ListN.{getD, List·getD-map}
-use Rattle.table.specs.declared.Link.{Link}
+use Rattle.rules.specs.Words.{Link}
 use Rattle.table.specs.Table.{pick, noLink, slot}
 use Rattle.rules.specs.Step.{dropFirst}
 use Rattle.rules.specs.Claim.{allBelow}
@@ -23,7 +23,9 @@ unfolding allBelow
 all-same zero f g h = refl
 all-same (suc n) f g h = rw (h n (omega arith), all-same n f g (λ k l. h k (omega arith))) refl
 
-pub drop-same : (ls : List Link) (t : ℕ) (l k : List ℕ) (n : ℕ) → ((i : ℕ) → i < n → getD l i 0 ≡ getD k i 0) → dropFirst ls t l n ≡ dropFirst ls t k n
+pub drop-same : (ls : List Link) (t : ℕ) (l k : List ℕ) (n : ℕ)
+    → ((i : ℕ) → i < n → getD l i 0 ≡ getD k i 0)
+    → dropFirst ls t l n ≡ dropFirst ls t k n
 unfolding dropFirst
 drop-same ls t l k zero h = refl
 drop-same ls t l k (suc n) h = rw (h n (omega arith), drop-same ls t l k n (λ i q. h i (omega arith))) refl
@@ -32,7 +34,8 @@ pub clip-same : (l : List ℕ) (n : ℕ) → ((i : ℕ) → i < n → getD l i 0
 clip-same l n h i q = List·getD-map (λ r. r % 32) l i 0 ∙ mod-eq-of-lt (h i q)
 
 -- the i-th of the links that a turn reads
-pub near : (ls : List Link) (t : ℕ) (l : List ℕ) (i : ℕ) → i < 4 → getD l i 0 < 32 → getD (linksOf ls t l) i noLink ≡ getD ls (slot t (getD l i 0)) noLink
+pub near : (ls : List Link) (t : ℕ) (l : List ℕ) (i : ℕ) → i < 4 → getD l i 0 < 32
+    → getD (linksOf ls t l) i noLink ≡ getD ls (slot t (getD l i 0)) noLink
 near ls t l zero q b = ap (λ r. getD ls (slot t r) noLink) (mod-eq-of-lt b)
 near ls t l (suc zero) q b = ap (λ r. getD ls (slot t r) noLink) (mod-eq-of-lt b)
 near ls t l (suc (suc zero)) q b = ap (λ r. getD ls (slot t r) noLink) (mod-eq-of-lt b)

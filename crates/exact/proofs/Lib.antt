@@ -1,3 +1,4 @@
+pub mod Put
 pub mod Clip
 pub mod Refusal
 pub mod Start

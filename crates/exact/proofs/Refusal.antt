@@ -8,14 +8,8 @@ use mathlib.Core.List.{List}
 use lib.ListN.{getD}
 use lib.Dec.{ltb}
 use borrow.Author.Tests.{ltb-true}
-use Rattle.table.specs.declared.Machine.{Machine}
-use Rattle.table.specs.declared.Link.{Link}
-use Rattle.table.specs.declared.Ask.{Ask}
-use Rattle.table.specs.declared.Ask.the-variants.{Llx as AskLlx, Scx as AskScx, Vlx as AskVlx, Read as AskRead, Step as AskStep}
-use Rattle.table.specs.declared.Call.{Call}
-use Rattle.table.specs.declared.Check.{Check}
-use Rattle.table.specs.declared.Check.the-variants.{Passed, Failed}
-use Rattle.table.specs.declared.Refusal.the-variants.{TaskBusy, ListLength, NoSuchRecord, RecordTwice, PlaceOrField, NoLink, NumbersUsed}
+use Rattle.rules.specs.Words.{Machine, Link, Ask, AskLlx, AskScx, AskVlx, AskRead, AskStep, Call, Check, Passed, Failed}
+use Rattle.rules.specs.Words.{TaskBusy, ListLength, NoSuchRecord, RecordTwice, PlaceOrField, NoLink, NumbersUsed}
 use Rattle.table.specs.Table.{pick, taskAt, linkAt, noLink}
 use Rattle.rules.specs.Claim.{allBelow, test}
 use Rattle.rules.specs.Shape.{within, exist, apart, InShape}
@@ -23,9 +17,15 @@ use Rattle.rules.specs.Refuse.{inside, isIdle, check, rules, idleAt, linkedAt}
 use Rattle.rules.proofs.Exact.{told}
 use Rattle.refuse.specs.Linked.{theres, linkedIn}
 use Rattle.hand.specs.Hand.{linksOf}
-use Rattle.exact.specs.Turn.{refusalIn}
 use Rattle.keeps.proofs.Bounds.{p≤8, n≤32}
 use Rattle.exact.proofs.Clip.{pick-same, all-same, near}
+
+-- the refusal that a turn finds, its task and the records of its list clipped
+unfoldable pub refusalIn : Machine → Call → Check
+refusalIn m e =
+    let t = e .task % 8 in
+    check
+    (rules (m .p) (m .n) (m .used) (isIdle (taskAt m t .place)) (linkedIn (e .ask) (linksOf (m .links) t (e .list))) (e .task) (e .ask) (e .list))
 
 -- what the links read say of each place
 at-there : (ls : List Link) (i : ℕ) → i < 4 → getD (theres ls) i false ≡ getD ls i noLink .there
@@ -41,7 +41,9 @@ module _ (m : Machine) (few : m .n ≤ 32) where
   linked-same t n l short here =
       let size = told 0 (within 4 n) short in
       let exists = told 0 (exist (m .n) n l) here in
-      all-same n _ _ (λ i q. at-there (linksOf (m .links) t l) i (omega arith) ∙ ap (λ k. k .there) (near (m .links) t l i (omega arith) (le-trans (exists i q) few)))
+      all-same n _ _
+      (λ i q. at-there (linksOf (m .links) t l) i (omega arith)
+      ∙ ap (λ k. k .there) (near (m .links) t l i (omega arith) (le-trans (exists i q) few)))
 
   unclipped : (t : ℕ) → m .p ≤ 8 → ltb t (m .p) ≡ true → t % 8 ≡ t
   unclipped t small h = mod-eq-of-lt (le-trans (ltb-true t (m .p) h) small)
@@ -71,14 +73,16 @@ module _ (m : Machine) (few : m .n ≤ 32) where
         (λ here. pick-same (test 0 (apart n l)) _ _ _ (λ _. ap later (linked-same t n l short here)))))
 
   refusal-same : m .p ≤ 8 → (t : ℕ) (ask : Ask) (l : List ℕ)
-      → check (rules (m .p) (m .n) (m .used) (isIdle (taskAt m (t % 8) .place)) (linkedIn ask (linksOf (m .links) (t % 8) l)) t ask l)
-      ≡ check (rules (m .p) (m .n) (m .used) (idleAt m t) (linkedAt m (record { task = t; ask = ask; list = l })) t ask l)
-  unfolding linkedAt
+      → let e : Call = record { task = t; ask = ask; list = l } in
+      refusalIn m e ≡ check (rules (m .p) (m .n) (m .used) (idleAt m t) (linkedAt m e) t ask l)
+  unfolding refusalIn linkedAt
   refusal-same small t (AskLlx r) l = pick-same (ltb t (m .p)) _ _ _ (λ h. rw (unclipped t small h) refl)
   refusal-same small t (AskScx n r written field new) l =
       pick-same (ltb t (m .p)) _ _ _
       (λ h. list-same n l
-      (λ linked. pick (test 0 (inside n r written field)) (pick linked (pick (ltb (m .used) 255) Passed (Failed NumbersUsed)) (Failed NoLink)) (Failed PlaceOrField)) (t % 8) t (unclipped t small h))
+      (λ linked. pick (test 0 (inside n r written field))
+      (pick linked (pick (ltb (m .used) 255) Passed (Failed NumbersUsed)) (Failed NoLink))
+      (Failed PlaceOrField)) (t % 8) t (unclipped t small h))
   refusal-same small t (AskVlx n) l =
       pick-same (ltb t (m .p)) _ _ _ (λ h. list-same n l (λ linked. pick linked Passed (Failed NoLink)) (t % 8) t (unclipped t small h))
   refusal-same small t (AskRead r f) l = pick-same (ltb t (m .p)) _ _ _ (λ h. rw (unclipped t small h) refl)
@@ -86,5 +90,4 @@ module _ (m : Machine) (few : m .n ≤ 32) where
 
 pub refusal-is : (m : Machine) (e : Call) → InShape m
     → refusalIn m e ≡ check (rules (m .p) (m .n) (m .used) (idleAt m (e .task)) (linkedAt m e) (e .task) (e .ask) (e .list))
-unfolding refusalIn
 refusal-is m e S = refusal-same m (n≤32 m S) (p≤8 m S) (e .task) (e .ask) (e .list)

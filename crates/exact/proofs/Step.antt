@@ -5,15 +5,8 @@ use mathlib.Core.Path.{_≡_, refl, sym, ap, ap₂, _∙_}
 use mathlib.Core.List.{List}
 use lib.ListN.{getD, set}
 use lib.Seq.{set-getD}
-use Rattle.table.specs.declared.Machine.{Machine}
-use Rattle.table.specs.declared.Record.{Record}
-use Rattle.table.specs.declared.Change.{Change}
-use Rattle.table.specs.declared.Place.{Place}
-use Rattle.table.specs.declared.Place.the-variants.{Idle, L1, L2, L3, L4, L5, L6, L7, L8, L9, L10, L11, H1, H2, H3, H4, H5, H6, H7, H8, Vlx, Read}
-use Rattle.table.specs.declared.Access.{Access}
-use Rattle.table.specs.declared.Seen.{Seen}
-use Rattle.table.specs.declared.Move.{Move}
-use Rattle.table.specs.declared.Out.{Out}
+use Rattle.rules.specs.Words.{Machine, Record, Change, AskStep, Access, Seen, Move, Out}
+use Rattle.rules.specs.Words.{Place, Idle, L1, L2, L3, L4, L5, L6, L7, L8, L9, L10, L11, H1, H2, H3, H4, H5, H6, H7, H8, Vlx, Read}
 use Rattle.table.specs.Table.{pick, noCells, noChange, recordAt, changeAt, taskAt, slot, linkAt}
 use Rattle.rules.specs.Access.{changeOf, accessOf, recordOf, changeIn}
 use Rattle.rules.specs.Perform.{seenBy, recordBy, changeBy, seen, perform}
@@ -21,9 +14,9 @@ use Rattle.rules.specs.Resume.{resume}
 use Rattle.rules.specs.Step.{taskBy, linkBy, dropFirst, settle, accessAt, moveAt, step}
 use Rattle.rules.specs.Shape.{InShape}
 use Rattle.act.specs.Act.{actOf}
-use Rattle.hand.specs.Hand.{clip}
-use Rattle.exact.specs.Turn.{putStep, actIn, stepWith, changeNo, stepIn}
-use Rattle.keeps.proofs.Bounds.{task<8, record<32, list<32}
+use Rattle.hand.specs.Hand.{clip, putTurn}
+use Rattle.exact.proofs.Put.{putPassed}
+use Rattle.keeps.proofs.Bounds.{record<32, list<32}
 use Rattle.exact.proofs.Clip.{drop-same, clip-same}
 
 -- The access of a place sees, and alters, of the changes only the one that the place names: what it sees there, and the changes after.
@@ -88,34 +81,34 @@ module _ (m : Machine) (t : ℕ) where
       }
 
   -- the same links are dropped by a list that agrees as far as they go
-  same-list : (changes : List Change) (s : Seen) (k l : List ℕ) → ((i : ℕ) → i < work s .drop → getD k i 0 ≡ getD l i 0) → built changes s k ≡ built changes s l
+  same-list : (changes : List Change) (s : Seen) (k l : List ℕ)
+      → ((i : ℕ) → i < work s .drop → getD k i 0 ≡ getD l i 0)
+      → built changes s k ≡ built changes s l
   unfolding built
   same-list changes s k l h = rw (drop-same _ t k l (work s .drop) h) refl
 
-  by-turn : (c r : ℕ) (a : Access) → c ≡ changeOf (taskAt m t .place) → a ≡ accessAt m t → r ≡ recordOf a
-      → stepWith m t c r a ≡ built (set (m .changes) c (changeBy a (changeAt m c))) (seenBy a (recordAt m r) (changeAt m c)) (clip (taskAt m t .list))
-  unfolding stepWith putStep actIn actOf built work
-  by-turn c r a ec ea er = rw (er, ea, ec) refl
+  by-turn : (c x : ℕ) (a : Access) (l : List ℕ) → c ≡ changeOf (taskAt m t .place) → a ≡ accessAt m t → x ≡ recordOf a
+      → putPassed m t c a x AskStep l
+      ≡ built (set (m .changes) c (changeBy a (changeAt m c))) (seenBy a (recordAt m x) (changeAt m c)) (clip (taskAt m t .list))
+  unfolding putTurn actOf built work
+  by-turn c x a l ec ea ex = rw (ex, ea, ec) refl
 
   by-rules : (a : Access) → a ≡ accessAt m t
       → step m t ≡ built (set (m .changes) (changeIn a) (changeBy a (changeAt m (changeIn a)))) (seen a m) (taskAt m t .list)
   unfolding step settle perform moveAt built work
   by-rules a ea = rw ea refl
 
-  step-same : InShape m → t < m .p → stepWith m t (changeNo m t) (recordOf (accessAt m t)) (accessAt m t) ≡ step m t
+  -- THE STEP: its record clipped
+  pub step-is : InShape m → t < m .p → (l : List ℕ)
+      → putPassed m t (changeOf (taskAt m t .place)) (accessAt m t) (recordOf (accessAt m t) % 32) AskStep l ≡ step m t
   unfolding seen accessAt moveAt work
-  step-same S tl =
+  step-is S tl l =
       let x = taskAt m t in
+      let c = changeOf (x .place) in
       let a = accessAt m t in
-      let n = named (m .changes) (recordAt m (recordOf a)) (x .list) (x .place) (changeAt m (changeNo m t)) in
-      by-turn (changeNo m t) (recordOf a) a refl refl refl
+      let n = named (m .changes) (recordAt m (recordOf a)) (x .list) (x .place) (changeAt m c) in
+      ap (λ r. putPassed m t c a r AskStep l) (mod-eq-of-lt (record<32 m S t tl))
+      ∙ by-turn c (recordOf a) a l refl refl refl
       ∙ ap₂ (λ (changes : List Change) (s : Seen). built changes s (clip (x .list))) (sym (n .leaves)) (sym (n .sees))
       ∙ same-list _ (seen a m) (clip (x .list)) (x .list) (clip-same (x .list) (moveAt m t .drop) (list<32 m S t tl))
       ∙ sym (by-rules a refl)
-
-pub step-is : (m : Machine) (t : ℕ) → InShape m → t < m .p → stepIn m (t % 8) ≡ step m t
-unfolding stepIn
-step-is m t S tl =
-    ap (stepIn m) (mod-eq-of-lt (task<8 m S t tl))
-    ∙ ap (λ r. stepWith m t (changeNo m t) r (accessAt m t)) (mod-eq-of-lt (record<32 m S t tl))
-    ∙ step-same m t S tl
