@@ -87,7 +87,7 @@ pub fn in_list(n: u8, r: [bool; Machine::LIST]) -> bool
     ensures { λ o. ⌜ o ≡ test 0 (spec.inList n r) ⌝ }
 {
     let mut i = 0;
-    while i < 4 {
+    while (i as usize) < Machine::LIST {
         if !place_in_list(n, r, i) {
             return false;
         }

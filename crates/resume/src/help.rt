@@ -87,7 +87,7 @@ fn is_from(i: u16, k: u16, b: bool) -> bool
     if i <= k { b } else { false }
 }
 
-// The first place of R from i on, 4 where there is none.
+// The first place of R from i on, LIST where there is none.
 fn first_from(r: [bool; Machine::LIST], i: u16) -> u8
     ensures { λ o. ⌜ o ≡ firstFrom r i ⌝ }
 {
@@ -100,14 +100,14 @@ fn first_from(r: [bool; Machine::LIST], i: u16) -> u8
     } else if is_from(i, 3, r[3]) {
         3
     } else {
-        4
+        Machine::LIST as u8
     }
 }
 
 fn at_mark(u: u8, i: u8, after: After) -> Place
     ensures { λ o. ⌜ o ≡ atMark u i after ⌝ }
 {
-    if i < 4 {
+    if (i as usize) < Machine::LIST {
         Place::H6 { u, i, after }
     } else {
         Place::H7 { u, after }

@@ -1,7 +1,8 @@
-// The moves that a step can make: on to a place, or done with an answer.
+// The moves that a step can make: on to a place, or done with an answer. No field is numbered FIELDS: no cell is kept.
 ghost use mathlib.Core.Path.{_≡_};
 ghost use Rattle.rules.specs.Resume.{on, onWith, done, snapshot, noAndDrop};
 use table::Answer;
+use table::Machine;
 use table::Move;
 use table::Place;
 
@@ -11,7 +12,7 @@ pub fn on(q: Place) -> Move
     Move {
         place: q,
         answer: Answer::Accepted,
-        field: 4,
+        field: Machine::FIELDS as u8,
         store: false,
         drop: 0,
     }
@@ -36,7 +37,7 @@ pub fn done(a: Answer) -> Move
     Move {
         place: Place::Idle,
         answer: a,
-        field: 4,
+        field: Machine::FIELDS as u8,
         store: false,
         drop: 0,
     }
@@ -49,7 +50,7 @@ pub fn snapshot() -> Move
     Move {
         place: Place::Idle,
         answer: Answer::Snapshot,
-        field: 4,
+        field: Machine::FIELDS as u8,
         store: true,
         drop: 0,
     }
@@ -62,7 +63,7 @@ pub fn no_and_drop(n: u8) -> Move
     Move {
         place: Place::Idle,
         answer: Answer::No,
-        field: 4,
+        field: Machine::FIELDS as u8,
         store: false,
         drop: n,
     }

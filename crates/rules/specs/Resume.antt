@@ -7,25 +7,25 @@ use lib.Dec.{eqb, ltb, leb}
 use Rattle.rules.specs.Words.{State, InProgress, Committed, Aborted, Change, After, Own, AtL8, AtL11, Seen, Move}
 use Rattle.rules.specs.Words.{Place, Idle, L1, L2, L3, L4, L5, L6, L7, L8, L9, L10, L11, H1, H2, H3, H4, H5, H6, H7, H8, Vlx, Read}
 use Rattle.rules.specs.Words.{TaskIdle, Answer, Accepted, Snapshot, Finalized, Fail, Yes, No, Value, Refused}
-use Rattle.table.specs.Table.{pick}
+use Rattle.table.specs.Table.{pick, maxList, maxFields}
 
--- on to a place; on, with the cell seen kept as field f; the answer, the task idle
+-- on to a place; on, with the cell seen kept as field f; the answer, the task idle. No field is numbered maxFields: no cell is kept
 abbrev pub on : Place → Move
-on q = record { place = q; answer = Accepted; field = 4; store = false; drop = 0 }
+on q = record { place = q; answer = Accepted; field = maxFields; store = false; drop = 0 }
 
 abbrev pub onWith : Place → ℕ → Move
 onWith q f = record { place = q; answer = Accepted; field = f; store = false; drop = 0 }
 
 abbrev pub done : Answer → Move
-done a = record { place = Idle; answer = a; field = 4; store = false; drop = 0 }
+done a = record { place = Idle; answer = a; field = maxFields; store = false; drop = 0 }
 
 -- the snapshot, the link stored
 abbrev pub snapshot : Move
-snapshot = record { place = Idle; answer = Snapshot; field = 4; store = true; drop = 0 }
+snapshot = record { place = Idle; answer = Snapshot; field = maxFields; store = true; drop = 0 }
 
 -- no, the links to the n records of the list dropped
 abbrev pub noAndDrop : ℕ → Move
-noAndDrop n = record { place = Idle; answer = No; field = 4; store = false; drop = n }
+noAndDrop n = record { place = Idle; answer = No; field = maxFields; store = false; drop = n }
 
 -- "L4 .. If that state was Aborted, or Committed with m2 no, go to L5, else L7"
 abbrev pub afterL4 : ℕ → Bool → ℕ → State → Bool → Place
@@ -89,18 +89,18 @@ afterH2 u i n after now = pick (eqb now u) (afterHeld u i n after) (H3 u after)
 abbrev pub afterH3 : ℕ → After → Bool → Move
 afterH3 u after frozen = pick frozen (verdict true after) (on (H4 u after))
 
--- the first place of R from i on, 4 where there is none
+-- the first place of R from i on, maxList where there is none
 abbrev pub isFrom : ℕ → ℕ → Bool → Bool
 isFrom i k b = pick (leb i k) b false
 
 abbrev pub firstFrom : List Bool → ℕ → ℕ
 firstFrom r i =
     pick (isFrom i 0 (getD r 0 false)) 0
-    (pick (isFrom i 1 (getD r 1 false)) 1 (pick (isFrom i 2 (getD r 2 false)) 2 (pick (isFrom i 3 (getD r 3 false)) 3 4)))
+    (pick (isFrom i 1 (getD r 1 false)) 1 (pick (isFrom i 2 (getD r 2 false)) 2 (pick (isFrom i 3 (getD r 3 false)) 3 maxList)))
 
 -- "H6 mark each record of R in the order of V, one a step", then H7
 abbrev pub atMark : ℕ → ℕ → After → Place
-atMark u i after = pick (ltb i 4) (H6 u i after) (H7 u after)
+atMark u i after = pick (ltb i maxList) (H6 u i after) (H7 u after)
 
 -- "VLX: .. a difference from the link answers no at once and drops the links of all V; after the last, yes, links kept"
 abbrev pub afterVlx : ℕ → ℕ → ℕ → ℕ → Move

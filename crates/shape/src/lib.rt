@@ -16,7 +16,7 @@ use table::Record;
 fn numbers_known(used: u8, info: u8, cells: Cells) -> bool
     ensures { λ o. ⌜ o ≡ test used (known info & spec.stampsKnown 4 cells) ⌝ }
 {
-    info <= used && lists::stamps_known(used, 4, cells)
+    info <= used && lists::stamps_known(used, Machine::FIELDS as u8, cells)
 }
 
 fn record_fine(used: u8, x: Record) -> bool

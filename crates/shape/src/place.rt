@@ -6,6 +6,7 @@ ghost use lib.ListN.{getD};
 ghost use Rattle.rules.specs.Claim.{allBelow, test, each, less, known, holds, _&_};
 ghost use Rattle.rules.specs.Shape as spec;
 ghost use Rattle.shape.specs.Linked.{linkedIn};
+use crate::numbers_known;
 use table::After;
 use table::Cells;
 use table::Change;
@@ -17,7 +18,7 @@ use table::Task;
 
 type Links = [Link; Machine::LINKS];
 
-// No number stands in an After, so any count of used ones will do.
+// No change number stands in an After, so any count of used ones will do.
 fn after_fine(records: u8, after: After) -> bool
     ensures { λ o. ⌜ ((used : ℕ) → o ≡ test used (spec.afterFine records after)) ⌝ }
 {
@@ -72,21 +73,22 @@ fn names(used: u8, records: u8, r: u8, a: u8) -> bool
 fn reads_cell(used: u8, records: u8, r: u8, a: u8, f: u8, cells: Cells) -> bool
     ensures { λ o. ⌜ o ≡ test used (less r records & known a & less f 4 & spec.stampsKnown f cells) ⌝ }
 {
-    r < records && (a <= used && (f < 4 && lists::stamps_known(used, f, cells)))
+    r < records
+        && (a <= used && ((f as usize) < Machine::FIELDS && lists::stamps_known(used, f, cells)))
 }
 
 // A record, a change and the four cells that were read.
 fn has_read(used: u8, records: u8, r: u8, a: u8, cells: Cells) -> bool
     ensures { λ o. ⌜ o ≡ test used (less r records & known a & spec.stampsKnown 4 cells) ⌝ }
 {
-    r < records && (a <= used && lists::stamps_known(used, 4, cells))
+    r < records && numbers_known(used, a, cells)
 }
 
 // A record and a field.
 fn reads_field(records: u8, r: u8, f: u8) -> bool
     ensures { λ o. ⌜ o ≡ test 0 (less r records & less f 4) ⌝ }
 {
-    r < records && f < 4
+    r < records && (f as usize) < Machine::FIELDS
 }
 
 // A place in the list of a change that is helped.

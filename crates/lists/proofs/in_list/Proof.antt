@@ -19,6 +19,9 @@ abbrev μ-loop : tie.MeasureT-loop
 loop-holds : tie.Need-loop-holds Inv-loop μ-loop
 loop-holds c = none-yet _ _
 
+cast-loop : tie.Need-cast-loop Inv-loop μ-loop
+cast-loop c = search needs
+
 place-in-list-requires : tie.Need-place-in-list-requires Inv-loop μ-loop
 place-in-list-requires c κs = search needs
 
@@ -40,4 +43,4 @@ returns-2 : tie.Need-returns-2 Inv-loop μ-loop
 returns-2 c = all-passed _ _ _ (c .before .loop .inv) (c .loop-test .left)
 
 pub in-list-spec : {M : Type 1} → statement M
-in-list-spec = tie.close (tie.spec Inv-loop μ-loop loop-holds place-in-list-requires returns add-i loop-less loop-again returns-2)
+in-list-spec = tie.close (tie.spec Inv-loop μ-loop loop-holds cast-loop place-in-list-requires returns add-i loop-less loop-again returns-2)

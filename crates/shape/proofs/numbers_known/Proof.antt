@@ -6,6 +6,9 @@ use Rattle.lists.proofs.Laws.{both-yes, both-no}
 use Rattle.shape.proofs.numbers_known.Statement.{statement}
 use Rattle.shape.proofs.numbers_known.Tie as tie
 
+cast-stamps-known : tie.Need-cast-stamps-known
+cast-stamps-known c = search needs
+
 stamps-known-requires : tie.Need-stamps-known-requires
 stamps-known-requires c κs = search needs
 
@@ -16,4 +19,4 @@ returns-2 : tie.Need-returns-2
 returns-2 c = both-no _ refl (lt-leb _ _ (c .if1 .left))
 
 pub numbers-known-spec : {M : Type 1} → statement M
-numbers-known-spec = tie.close (tie.spec stamps-known-requires returns returns-2)
+numbers-known-spec = tie.close (tie.spec cast-stamps-known stamps-known-requires returns returns-2)
