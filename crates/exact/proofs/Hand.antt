@@ -11,7 +11,7 @@ use Rattle.rules.specs.Step.{dropFirst, accessAt}
 use Rattle.rules.specs.Shape.{inShape, InShape}
 use Rattle.rules.specs.Refuse.{rules, idleAt, linkedAt}
 use Rattle.rules.specs.Next.{refused, accepted, next}
-use Rattle.hand.specs.Hand.{numberOf, keptBy, checkedOf, turnOf, handAt, putTurn, turnWith, turnIn}
+use Rattle.hand.specs.Hand.{numberOf, keptBy, checkedOf, turnOf, handAt, putTurn, turnIn}
 use Rattle.keeps.proofs.Obeyed.{Obeyed, passed}
 use Rattle.keeps.proofs.Bounds.{p≤8, n≤32}
 use Rattle.exact.proofs.Put.{putPassed, same-records, same-changes, same-tasks, same-links}
@@ -36,7 +36,7 @@ turn-by : (m : Machine) (e : Call) (k : Check) → refusalIn m e ≡ k
     let c = number m t (e .ask) in
     let x = touched m t (e .ask) in
     turnIn m e ≡ putTurn m t c x (checkedOf k (handAt m t (e .list) c (access m t (e .ask)) x) e)
-unfolding turnIn turnWith turnOf refusalIn
+unfolding turnIn turnOf refusalIn
 turn-by m e k ek =
     let t = e .task % 8 in
     let c = number m t (e .ask) in

@@ -15,7 +15,7 @@ use Rattle.rules.specs.Claim.{allBelow, test}
 use Rattle.rules.specs.Shape.{within, exist, apart, InShape}
 use Rattle.rules.specs.Refuse.{inside, isIdle, check, rules, idleAt, linkedAt}
 use Rattle.rules.proofs.Exact.{told}
-use Rattle.refuse.specs.Linked.{theres, linkedIn}
+use Rattle.refuse.specs.Linked.{theres, linkedBy}
 use Rattle.hand.specs.Hand.{linksOf}
 use Rattle.keeps.proofs.Bounds.{p≤8, n≤32}
 use Rattle.exact.proofs.Clip.{pick-same, all-same, near}
@@ -25,7 +25,7 @@ unfoldable pub refusalIn : Machine → Call → Check
 refusalIn m e =
     let t = e .task % 8 in
     check
-    (rules (m .p) (m .n) (m .used) (isIdle (taskAt m t .place)) (linkedIn (e .ask) (linksOf (m .links) t (e .list))) (e .task) (e .ask) (e .list))
+    (rules (m .p) (m .n) (m .used) (isIdle (taskAt m t .place)) (linkedBy (e .ask) (linksOf (m .links) t (e .list))) (e .task) (e .ask) (e .list))
 
 -- what the links read say of each place
 at-there : (ls : List Link) (i : ℕ) → i < 4 → getD (theres ls) i false ≡ getD ls i noLink .there

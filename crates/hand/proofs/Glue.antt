@@ -5,7 +5,7 @@ use mathlib.Core.Bool.{Bool}
 use mathlib.Core.List.{List}
 use Rattle.rules.specs.Words.{Ask, Call, Check}
 use Rattle.rules.specs.Refuse.{isIdle, check, rules}
-use Rattle.refuse.specs.Linked.{linkedIn}
+use Rattle.refuse.specs.Linked.{linkedBy}
 use Rattle.begin.specs.Begun.{begunBy}
 use Rattle.hand.specs.declared.Hand.{Hand}
 use Rattle.hand.specs.declared.Turned.{Turned}
@@ -16,12 +16,16 @@ abbrev pub startOf : Hand → List ℕ → Ask → Turned
 startOf h l ask = begunOf h (begunBy ask l (h .used) (h .task) (h .change) (h .near))
 
 -- a call of which it is known what it asks
-pub as-asked : (h : Hand) (l : List ℕ) (ask k : Ask) (o : Turned) → ask ≡ k → o ≡ startOf h l ask → startOf h l k ≡ passedOf h k l → o ≡ passedOf h ask l
+pub as-asked : (h : Hand) (l : List ℕ) (ask k : Ask) (o : Turned)
+    → ask ≡ k
+    → o ≡ startOf h l ask
+    → startOf h l k ≡ passedOf h k l
+    → o ≡ passedOf h ask l
 as-asked h l ask k o e eo same = eo ∙ ap (startOf h l) e ∙ same ∙ ap (λ x. passedOf h x l) (sym e)
 
 -- the refusals' outcome, by what they were found on
 pub checked : (h : Hand) (e : Call) (linked idle : Bool) (c k : Check) (o : Turned)
-    → linked ≡ linkedIn (e .ask) (h .near)
+    → linked ≡ linkedBy (e .ask) (h .near)
     → idle ≡ isIdle (h .task .place)
     → c ≡ check (rules (h .p) (h .n) (h .used) idle linked (e .task) (e .ask) (e .list))
     → c ≡ k

@@ -8,7 +8,7 @@ use Rattle.table.specs.Table.{noCells, noLink, recordAt, changeAt, taskAt, slot
 use Rattle.rules.specs.Access.{changeOf, accessOf, recordOf}
 use Rattle.rules.specs.Step.{dropFirst}
 use Rattle.rules.specs.Refuse.{isIdle, check, rules}
-use Rattle.refuse.specs.Linked.{linkedIn}
+use Rattle.refuse.specs.Linked.{linkedBy}
 use Rattle.begin.specs.declared.Begun.{Begun}
 use Rattle.begin.specs.Begun.{nextNumber, begunBy}
 use Rattle.act.specs.declared.Stored.{Stored}
@@ -16,6 +16,7 @@ use Rattle.act.specs.Act.{actOf}
 use Rattle.hand.specs.declared.Hand.{Hand}
 use Rattle.hand.specs.declared.Turned.{Turned}
 
+-- the number of the change in hand: the next for a start, for a STEP the one that the place names
 abbrev pub numberOf : Ask → ℕ → Place → ℕ
 numberOf (AskLlx r) used q = nextNumber used
 numberOf (AskScx n r written field new) used q = nextNumber used
@@ -53,7 +54,7 @@ begunOf h b =
       cells = noCells;
     }
 
--- a step: no number
+-- a step: no number is taken
 abbrev pub steppedOf : Hand → Stored → Turned
 steppedOf h d =
     record {
@@ -83,7 +84,7 @@ checkedOf (Failed why) h e = keptBy h why
 unfoldable pub turnOf : Hand → Call → Turned
 turnOf h e =
     checkedOf
-    (check (rules (h .p) (h .n) (h .used) (isIdle (h .task .place)) (linkedIn (e .ask) (h .near)) (e .task) (e .ask) (e .list)))
+    (check (rules (h .p) (h .n) (h .used) (isIdle (h .task .place)) (linkedBy (e .ask) (h .near)) (e .task) (e .ask) (e .list)))
     h
     e
 
@@ -135,9 +136,6 @@ putTurn m t c r d =
       cells = d .cells;
     }
 
-unfoldable pub turnWith : Machine → Call → ℕ → ℕ → Access → ℕ → Out
-turnWith m e t c a r = putTurn m t c r (turnOf (handAt m t (e .list) c a r) e)
-
 -- THE CALL
 unfoldable pub turnIn : Machine → Call → Out
 turnIn m e =
@@ -145,4 +143,5 @@ turnIn m e =
     let x = taskAt m t in
     let c = numberOf (e .ask) (m .used) (x .place) in
     let a = accessOf (x .place) (changeAt m c) (x .list) in
-    turnWith m e t c a (recordOf a % 32)
+    let r = recordOf a % 32 in
+    putTurn m t c r (turnOf (handAt m t (e .list) c a r) e)

@@ -113,8 +113,8 @@ fn stepped(h: Hand) -> Turned
     let a = h.access;
     let named = h.change;
     let touched = h.rec;
-    let near = h.link;
-    let d = act::act(was, a, named, touched, near);
+    let linked = h.link;
+    let d = act::act(was, a, named, touched, linked);
     let rec = d.rec;
     let change = d.change;
     let task = d.task;

@@ -3,14 +3,13 @@ ghost use mathlib.Core.Path.{_≡_};
 ghost use mathlib.Core.Bool.{false};
 ghost use mathlib.Core.List.{[]};
 ghost use lib.Dec.{ltb};
+ghost use Rattle.rules.specs.Words.{AskLlx, AskScx, AskVlx, AskRead, AskStep, Failed};
 ghost use Rattle.table.specs.Table.{pick};
-ghost use Rattle.table.specs.declared.Ask.the-variants.{Llx as AskLlx, Scx as AskScx, Vlx as AskVlx, Read as AskRead, Step as AskStep};
-ghost use Rattle.table.specs.declared.Check.the-variants.{Failed};
 ghost use Rattle.rules.specs.Claim.{both, test};
 ghost use Rattle.rules.specs.Shape.{inList};
 ghost use Rattle.rules.specs.Start.{places};
 ghost use Rattle.rules.specs.Refuse.{inside, listed, check, rules};
-ghost use Rattle.refuse.specs.Linked.{linkedIn};
+ghost use Rattle.refuse.specs.Linked.{linkedBy};
 use table::Ask;
 use table::Call;
 use table::Check;
@@ -162,7 +161,7 @@ fn listed(ask: Ask) -> u8
 
 // Whether each record that a call names has a link, by the links of its list.
 pub fn linked(ask: Ask, links: [Link; Machine::LIST]) -> bool
-    ensures { λ o. ⌜ o ≡ linkedIn ask links ⌝ }
+    ensures { λ o. ⌜ o ≡ linkedBy ask links ⌝ }
 {
     let l0 = links[0];
     let l1 = links[1];

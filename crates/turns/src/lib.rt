@@ -41,7 +41,7 @@ fn drop_links(links: [Link; Machine::LINKS], t: u8, list: List, n: u8) -> [Link;
     left
 }
 
-// Any call of a state in shape: its refusals from 11 on, else the start or the step.
+// Any call, refusal 10 aside: its refusals from 11 on, else the start or the step.
 pub fn turn_in(m: Machine, e: Call) -> Out
     ensures { λ o. ⌜ o ≡ turnIn m e ⌝ }
 {
@@ -84,8 +84,8 @@ pub fn turn_in(m: Machine, e: Call) -> Out
     out.changes[c] = change2;
     out.tasks[k] = task2;
     out.links[at] = link2;
-    let held = out.links;
-    let left = drop_links(held, t, gone, d.drop);
+    let links2 = out.links;
+    let left = drop_links(links2, t, gone, d.drop);
     out.links = left;
     let answer = d.answer;
     let cells = d.cells;

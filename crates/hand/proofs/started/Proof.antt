@@ -9,7 +9,9 @@ start-requires : tie.Need-start-requires
 start-requires c κs = search needs
 
 returns : tie.Need-returns
-returns c = ap (begunOf (c .before .before .before .before .before .before .before .before .before .args .h)) (c .before .before .before .before .before .start .ensures)
+returns c =
+    ap (begunOf (c .before .before .before .before .before .before .before .before .before .args .h))
+    (c .before .before .before .before .before .start .ensures)
 
 pub started-spec : {M : Type 1} → statement M
 started-spec = tie.close (tie.spec start-requires returns)

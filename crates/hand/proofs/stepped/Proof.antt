@@ -9,7 +9,9 @@ act-requires : tie.Need-act-requires
 act-requires c κs = search needs
 
 returns : tie.Need-returns
-returns c = ap (steppedOf (c .before .before .before .before .before .before .before .before .before .before .before .args .h)) (c .before .before .before .before .before .before .act .ensures)
+returns c =
+    ap (steppedOf (c .before .before .before .before .before .before .before .before .before .before .before .args .h))
+    (c .before .before .before .before .before .before .act .ensures)
 
 pub stepped-spec : {M : Type 1} → statement M
 stepped-spec = tie.close (tie.spec act-requires returns)

@@ -26,10 +26,18 @@ kept-by-requires : tie.Need-kept-by-requires
 kept-by-requires c κs = search needs
 
 returns : tie.Need-returns
-returns c = checked _ _ _ _ _ _ _ (c .before .before .before .before .before .linked .ensures) (c .before .before .before .before .is-idle .ensures) (c .before .before .before .refusal .ensures) (c .before .enum-told .given .1) (c .passed-of .ensures)
+returns c =
+    let d = c .before .before .before in
+    checked _ _ _ _ _ _ _ (d .before .before .linked .ensures) (d .before .is-idle .ensures) (d .refusal .ensures)
+    (c .before .enum-told .given .1)
+    (c .passed-of .ensures)
 
 returns-2 : tie.Need-returns-2
-returns-2 c = checked _ _ _ _ _ _ _ (c .before .before .before .before .before .before .linked .ensures) (c .before .before .before .before .before .is-idle .ensures) (c .before .before .before .before .refusal .ensures) (c .before .before .c .given .1) (c .kept-by .ensures)
+returns-2 c =
+    let d = c .before .before .before .before in
+    checked _ _ _ _ _ _ _ (d .before .before .linked .ensures) (d .before .is-idle .ensures) (d .refusal .ensures)
+    (c .before .before .c .given .1)
+    (c .kept-by .ensures)
 
 pub turn-spec : {M : Type 1} → statement M
 turn-spec =

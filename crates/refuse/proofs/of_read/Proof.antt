@@ -16,7 +16,10 @@ unless-requires-4 : tie.Need-unless-requires-4
 unless-requires-4 c κs = search needs
 
 returns : tie.Need-returns
-returns c = simp (c .before .unless3 .ensures, c .before .before .unless2 .ensures, c .before .before .before .unless .ensures) at (c .unless4 .ensures)
+returns c =
+    let c12 = c .before in
+    let c15 = c12 .before in
+    simp (c12 .unless3 .ensures, c15 .unless2 .ensures, c15 .before .unless .ensures) at (c .unless4 .ensures)
 
 pub of-read-spec : {M : Type 1} → statement M
 of-read-spec =

@@ -40,7 +40,27 @@ unless-requires-8 : tie.Need-unless-requires-8
 unless-requires-8 c κs = search needs
 
 returns : tie.Need-returns
-returns c = simp (c .before .unless7 .ensures, c .before .before .unless6 .ensures, c .before .before .before .length-fine .ensures, c .before .before .before .before .unless5 .ensures, c .before .before .before .before .before .exist .ensures, c .before .before .before .before .before .before .unless4 .ensures, c .before .before .before .before .before .before .before .apart .ensures, c .before .before .before .before .before .before .before .before .unless3 .ensures, c .before .before .before .before .before .before .before .before .before .inside .ensures, c .before .before .before .before .before .before .before .before .before .before .unless2 .ensures, c .before .before .before .before .before .before .before .before .before .before .before .unless .ensures) at (c .unless8 .ensures)
+returns c =
+    let c12 = c .before in
+    let c14 = c12 .before in
+    let c15 = c14 .before .before in
+    let c16 = c15 .before .before in
+    let c17 = c16 .before .before in
+    let c18 = c17 .before .before in
+    simp (
+      c12 .unless7 .ensures,
+      c14 .unless6 .ensures,
+      c14 .before .length-fine .ensures,
+      c15 .unless5 .ensures,
+      c15 .before .exist .ensures,
+      c16 .unless4 .ensures,
+      c16 .before .apart .ensures,
+      c17 .unless3 .ensures,
+      c17 .before .inside .ensures,
+      c18 .unless2 .ensures,
+      c18 .before .unless .ensures,
+    )
+    at (c .unless8 .ensures)
 
 pub of-scx-spec : {M : Type 1} → statement M
 of-scx-spec =

@@ -31,7 +31,22 @@ unless-requires-6 : tie.Need-unless-requires-6
 unless-requires-6 c κs = search needs
 
 returns : tie.Need-returns
-returns c = simp (c .before .unless5 .ensures, c .before .before .unless4 .ensures, c .before .before .before .length-fine .ensures, c .before .before .before .before .unless3 .ensures, c .before .before .before .before .before .exist .ensures, c .before .before .before .before .before .before .unless2 .ensures, c .before .before .before .before .before .before .before .apart .ensures, c .before .before .before .before .before .before .before .before .unless .ensures) at (c .unless6 .ensures)
+returns c =
+    let c12 = c .before in
+    let c14 = c12 .before in
+    let c15 = c14 .before .before in
+    let c16 = c15 .before .before in
+    simp (
+      c12 .unless5 .ensures,
+      c14 .unless4 .ensures,
+      c14 .before .length-fine .ensures,
+      c15 .unless3 .ensures,
+      c15 .before .exist .ensures,
+      c16 .unless2 .ensures,
+      c16 .before .apart .ensures,
+      c16 .before .before .unless .ensures,
+    )
+    at (c .unless6 .ensures)
 
 pub of-vlx-spec : {M : Type 1} → statement M
 of-vlx-spec =

@@ -1,5 +1,5 @@
 -- `turns::drop_links` meets its contract.
-use Rattle.turns.proofs.Glue.{drop-none, drop-more}
+use Rattle.hand.proofs.Stored.{drop-none, drop-more}
 use Rattle.hand.specs.Hand.{clip}
 use Rattle.rules.specs.Step.{dropFirst}
 use borrow.Author.Needs.{needs}
@@ -49,7 +49,9 @@ loop-less : tie.Need-loop-less Inv-loop μ-loop
 loop-less c = search needs
 
 loop-again : tie.Need-loop-again Inv-loop μ-loop
-loop-again c = (search needs, drop-more _ _ _ (c .before .before .before .before .args .list) (c .before .before .before .loop .j) _ (c .before .before .before .loop .inv .1) (c .before .number-at .ensures))
+loop-again c =
+    let d = c .before .before .before in
+    (search needs, drop-more _ _ _ (d .before .args .list) (d .loop .j) _ (d .loop .inv .1) (c .before .number-at .ensures))
 
 returns : tie.Need-returns Inv-loop μ-loop
 returns c = let e : c .before .loop .j ≡ c .before .before .args .n = omega arith in rw e at (c .before .loop .inv .1)

@@ -86,7 +86,16 @@ drop-links-requires : tie.Need-drop-links-requires
 drop-links-requires c κs = search needs
 
 returns : tie.Need-returns
-returns c = turned _ _ _ _ _ _ _ _ (c .before .before .before .before .before .before .before .before .before .before .before .before .before .before .before .before .number-of .ensures) (c .before .before .before .before .before .before .before .before .before .before .before .before .before .before .access-of .ensures) (c .before .before .before .before .before .before .before .before .before .before .before .before .before .record-of .ensures) (c .before .before .before .before .before .before .before .before .before .links-of .ensures) (c .before .before .before .before .before .before .before .before .turn .ensures) (lost-is _ _ _ _ _ (c .before .drop-links .ensures))
+returns c =
+    let turn = c .before .before .before .before .before .before .before .before in
+    let rec = turn .before .before .before .before .before in
+    turned _ _ _ _ _ _ _ _
+    (rec .before .before .before .number-of .ensures)
+    (rec .before .access-of .ensures)
+    (rec .record-of .ensures)
+    (turn .before .links-of .ensures)
+    (turn .turn .ensures)
+    (lost-is _ _ _ _ _ (c .before .drop-links .ensures))
 
 pub turn-in-spec : {M : Type 1} → statement M
 turn-in-spec =
