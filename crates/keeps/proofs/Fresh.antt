@@ -3,19 +3,18 @@ use Prim.Native.Nat.{ℕ, zero, suc, _+_, _*_, _<_, _≤_}
 use native.Mathlib.Omega.{arith}
 use native.Mathlib.Nat.{le-refl}
 use mathlib.Core.Path.{_≡_}
-use mathlib.Core.Bool.{true, false, false≢true}
+use mathlib.Core.Bool.{true, false≢true}
 use mathlib.Core.List.{List, [], _∷_}
 use lib.ListN.{getD, length, replicate, getD-replicate}
-use lib.Dec.{ltb, leb, eqb, lit<}
-use borrow.Author.Tests.{ltb-true}
+use lib.Dec.{ltb, lit<}
 use Rattle.rules.specs.Words.{Cell, Record, Change, Task, Link}
 use Rattle.keeps.proofs.Stores.{picked}
 use Rattle.keeps.proofs.Fine.{Fine, in-shape}
 use Rattle.keeps.proofs.Frame.{claimOf}
-use Rattle.table.specs.Table.{pick, noRecord, noTask, noLink, cellAt, slot, maxTasks, maxRecords}
-use Rattle.table.specs.Fresh.{freshRecord, emptyRecord, freshRecords, emptyChange, idleTask, emptyLink, freshMachine, within, inRange, fresh}
+use Rattle.table.specs.Table.{pick, noRecord, noTask, noLink, cellAt, slot}
+use Rattle.table.specs.Fresh.{freshRecord, emptyRecord, freshRecords, emptyChange, idleTask, emptyLink, freshMachine, inRange, fresh}
 use Rattle.table.proofs.Tabulate.{getD-tabulate}
-use Rattle.table.proofs.Fresh.{and-is, sized}
+use Rattle.table.proofs.Fresh.{sized}
 use Rattle.rules.specs.Claim.{Says}
 use Rattle.rules.specs.Shape.{recordFine, linkFine, shape, inShape, InShape}
 use Rattle.rules.proofs.Exact.{passes}
@@ -65,12 +64,8 @@ fresh-fine p n values p0 p8 n0 n32 =
 -- the counts in range
 fresh-counted : (p n : ℕ) (values : List ℕ) → inRange p n (length values) ≡ true → Fine (freshMachine p n (freshRecords n values))
 fresh-counted p n values e =
-    let tasks = and-is (within maxTasks p) (pick (within maxRecords n) (eqb (length values) (4 * n)) false) e in
-    let records = and-is (within maxRecords n) (eqb (length values) (4 * n)) (tasks .1) in
-    let some-task = ltb-true 0 p (and-is (ltb 0 p) (leb p 8) (tasks .0) .0) in
-    let some-record = ltb-true 0 n (and-is (ltb 0 n) (leb n 32) (records .0) .0) in
     let size = sized p n (length values) e in
-    fresh-fine p n values some-task (size .tasks) some-record (size .records)
+    fresh-fine p n values (size .some-task) (size .tasks) (size .some-record) (size .records)
 
 pub fresh-in-shape : (p n : ℕ) (values : List ℕ) → inRange p n (length values) ≡ true → inShape (fresh p n values .m) ≡ true
 unfolding fresh inShape InShape

@@ -1,2 +1,3 @@
-pub mod Fresh
+-- The modules of proofs/ beside the proofs of the functions, each after those that it uses.
 pub mod Tabulate
+pub mod Fresh

@@ -2,7 +2,7 @@
 -- Its one refusal is 22: P or N out of range, or other than 4N values; it then holds no task and no record.
 use Prim.Native.Nat.{ℕ, suc, _+_, _*_}
 use mathlib.Core.List.{List, [], _∷_}
-use mathlib.Core.Bool.{Bool, true, false}
+use mathlib.Core.Bool.{Bool, false}
 use lib.ListN.{getD, length, replicate}
 use lib.Dec.{ltb, leb, eqb}
 use Rattle.table.specs.declared.Cell.{Cell}
@@ -25,7 +25,12 @@ initial values k = record { value = getD values k 0; stamp = 0 }
 abbrev pub freshRecord : List ℕ → ℕ → Record
 freshRecord values r =
     record {
-      cells = initial values (maxFields * r) ∷ initial values (maxFields * r + 1) ∷ initial values (maxFields * r + 2) ∷ initial values (maxFields * r + 3) ∷ [];
+      cells =
+          initial values (maxFields * r)
+          ∷ initial values (maxFields * r + 1)
+          ∷ initial values (maxFields * r + 2)
+          ∷ initial values (maxFields * r + 3)
+          ∷ [];
       mark = false;
       info = 0;
     }

@@ -1,5 +1,5 @@
--- What stands where in the table. Past an array's end, where no accepted call looks in a state in shape, the logic's own default
--- stands: zeros, empty lists, an enum's first case. Nothing can be set there.
+-- The limits, and what stands where in the table. Past an array's end, where no accepted call looks in a state in shape, the logic's
+-- own default stands: zeros, empty lists, an enum's first case. Nothing can be set there.
 use Prim.Native.Nat.{ℕ, zero, suc, _+_, _*_}
 use mathlib.Core.List.{List, [], _∷_}
 use mathlib.Core.Bool.{Bool, true, false}
@@ -15,7 +15,7 @@ use Rattle.table.specs.declared.Machine.{Machine}
 use Rattle.table.specs.declared.State.the-variants.{InProgress, Aborted}
 use Rattle.table.specs.declared.Place.the-variants.{Idle}
 
--- THE LIMITS, "Sizes": tasks 1 to 8, records 1 to 32, change numbers 1 to 255, lists of 1 to 4; four fields a record
+-- THE LIMITS, "Sizes": tasks 1 to 8, records 1 to 32, change numbers 1 to 255, lists of 1 to 4, four fields a record, 0 to 5,000 events
 abbrev pub maxTasks : ℕ
 maxTasks = 8
 
@@ -34,7 +34,7 @@ maxFields = 4
 abbrev pub maxEvents : ℕ
 maxEvents = 5000
 
--- a where b holds, else the other
+-- the first where the test holds, else the second
 abbrev pub pick : {A : Type 0} → Bool → A → A → A
 pick true a b = a
 pick false a b = b

@@ -43,15 +43,27 @@ same-cell-requires-4 c κs = search needs
 
 returns : tie.Need-returns
 unfolding sameCells
-returns c = simp (sym (c .before .before .before .before .same-cell3 .ensures) ∙ c .before .before .before .if3 .taken, sym (c .before .before .before .before .before .before .before .before .same-cell2 .ensures) ∙ c .before .before .before .before .before .before .before .if2 .taken, sym (c .before .before .before .before .before .before .before .before .before .before .before .before .same-cell .ensures) ∙ c .before .before .before .before .before .before .before .before .before .before .before .if1 .taken) (c .same-cell4 .ensures)
+returns c =
+    let at3 = c .before .before .before in
+    let at2 = at3 .before .before .before .before in
+    let at1 = at2 .before .before .before .before in
+    let same1 = sym (at1 .before .same-cell .ensures) ∙ at1 .if1 .taken in
+    let same2 = sym (at2 .before .same-cell2 .ensures) ∙ at2 .if2 .taken in
+    simp (sym (at3 .before .same-cell3 .ensures) ∙ at3 .if3 .taken, same2, same1) (c .same-cell4 .ensures)
 
 returns-2 : tie.Need-returns-2
 unfolding sameCells
-returns-2 c = simp (sym (c .before .same-cell3 .ensures) ∙ c .if3 .left, sym (c .before .before .before .before .before .same-cell2 .ensures) ∙ c .before .before .before .before .if2 .taken, sym (c .before .before .before .before .before .before .before .before .before .same-cell .ensures) ∙ c .before .before .before .before .before .before .before .before .if1 .taken)
+returns-2 c =
+    let at2 = c .before .before .before .before in
+    let at1 = at2 .before .before .before .before in
+    let same1 = sym (at1 .before .same-cell .ensures) ∙ at1 .if1 .taken in
+    simp (sym (c .before .same-cell3 .ensures) ∙ c .if3 .left, sym (at2 .before .same-cell2 .ensures) ∙ at2 .if2 .taken, same1)
 
 returns-3 : tie.Need-returns-3
 unfolding sameCells
-returns-3 c = simp (sym (c .before .same-cell2 .ensures) ∙ c .if2 .left, sym (c .before .before .before .before .before .same-cell .ensures) ∙ c .before .before .before .before .if1 .taken)
+returns-3 c =
+    let at1 = c .before .before .before .before in
+    simp (sym (c .before .same-cell2 .ensures) ∙ c .if2 .left, sym (at1 .before .same-cell .ensures) ∙ at1 .if1 .taken)
 
 returns-4 : tie.Need-returns-4
 unfolding sameCells

@@ -1,11 +1,10 @@
 -- `table::making::fresh_records` meets its contract.
 use Prim.Native.Nat.{_≤_, _-_}
-use mathlib.Core.Path.{_≡_, refl}
+use mathlib.Core.Path.{_≡_}
 use borrow.Author.Needs.{needs}
 use native.Mathlib.Omega.{arith}
 use Rattle.table.specs.Fresh.{freshRecords}
 use Rattle.table.proofs.Fresh.{fresh-none, fresh-more}
-use borrow.Author.Tests.{le-ltb}
 use Rattle.table.proofs.making.fresh_records.Statement.{statement}
 use Rattle.table.proofs.making.fresh_records.Tie as tie
 

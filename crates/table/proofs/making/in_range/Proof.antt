@@ -14,10 +14,14 @@ mul-result : tie.Need-mul-result
 mul-result c = search needs
 
 returns : tie.Need-returns
-returns c = simp (sym (c .before .before .before .within .ensures) ∙ c .before .before .if1 .taken, sym (c .before .within2 .ensures) ∙ c .if2 .taken)
+returns c =
+    let d = c .before .before in
+    simp (sym (d .before .within .ensures) ∙ d .if1 .taken, sym (c .before .within2 .ensures) ∙ c .if2 .taken)
 
 returns-2 : tie.Need-returns-2
-returns-2 c = simp (sym (c .before .before .before .within .ensures) ∙ c .before .before .if1 .taken, sym (c .before .within2 .ensures) ∙ c .if2 .left)
+returns-2 c =
+    let d = c .before .before in
+    simp (sym (d .before .within .ensures) ∙ d .if1 .taken, sym (c .before .within2 .ensures) ∙ c .if2 .left)
 
 returns-3 : tie.Need-returns-3
 returns-3 c = simp (sym (c .before .within .ensures) ∙ c .if1 .left)
