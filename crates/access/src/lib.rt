@@ -1,7 +1,7 @@
 // The one shared access of a step: which change a place names, which access it makes, which record that touches; whether it is idle.
 ghost use mathlib.Core.Path.{_≡_};
 ghost use lib.ListN.{getD};
-ghost use Rattle.table.specs.declared.Access.the-variants.{Hold, Write};
+ghost use Rattle.rules.specs.Words.{Hold, Write};
 ghost use Rattle.rules.specs.Access.{changeOf, accessOf, recordOf};
 ghost use Rattle.rules.specs.Refuse.{isIdle};
 use table::Access;
@@ -52,9 +52,8 @@ fn v_at(ch: Change, i: u8) -> u8
 fn hold_of(ch: Change, u: u8, i: u8) -> Access
     ensures { λ o. ⌜ o ≡ Hold (getD (ch .v) i 0) (getD (ch .infos) i 0) u ⌝ }
 {
-    let v = ch.v;
     let infos = ch.infos;
-    let r = four::number_at(v, i);
+    let r = v_at(ch, i);
     let want = four::number_at(infos, i);
     Access::Hold { r, want, u }
 }
@@ -63,9 +62,8 @@ fn hold_of(ch: Change, u: u8, i: u8) -> Access
 fn write_of(ch: Change, u: u8) -> Access
     ensures { λ o. ⌜ o ≡ Write (getD (ch .v) (ch .written) 0) (ch .field) (ch .old) (record { value = ch .new; stamp = u }) ⌝ }
 {
-    let v = ch.v;
     let old = ch.old;
-    let r = four::number_at(v, ch.written);
+    let r = v_at(ch, ch.written);
     let new = Cell {
         value: ch.new,
         stamp: u,

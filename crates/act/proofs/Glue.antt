@@ -1,21 +1,15 @@
 -- From what each part of a step ensures to the step.
 use mathlib.Core.Path.{_≡_, refl}
 use mathlib.Core.List.{List}
-use Rattle.table.specs.declared.Cell.{Cell}
-use Rattle.table.specs.declared.Record.{Record}
-use Rattle.table.specs.declared.Change.{Change}
-use Rattle.table.specs.declared.Task.{Task}
-use Rattle.table.specs.declared.Link.{Link}
-use Rattle.table.specs.declared.Access.{Access}
-use Rattle.table.specs.declared.Seen.{Seen}
-use Rattle.table.specs.declared.Move.{Move}
+use Rattle.rules.specs.Words.{Cell, Record, Change, Task, Link, Access, Seen, Move}
 use Rattle.table.specs.Table.{pick, noCells}
 use Rattle.rules.specs.Perform.{seenBy, recordBy, changeBy}
 use Rattle.rules.specs.Resume.{resume}
 use Rattle.rules.specs.Step.{taskBy, linkBy}
 use Rattle.act.specs.Act.{actOf}
 
-pub act-is : (x : Task) (a : Access) (ch : Change) (rec : Record) (link : Link) (s : Seen) (v : Move) (r2 : Record) (c2 : Change) (t2 : Task) (l2 : Link) (cs : List Cell)
+pub act-is : (x : Task) (a : Access) (ch : Change) (rec : Record) (link : Link) (s : Seen) (v : Move)
+    (r2 : Record) (c2 : Change) (t2 : Task) (l2 : Link) (cs : List Cell)
     → s ≡ seenBy a rec ch
     → v ≡ resume (x .place) s ch (link .info)
     → r2 ≡ recordBy a rec

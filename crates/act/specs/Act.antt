@@ -1,10 +1,6 @@
 -- A step on small values: what it leaves of the record, the change, the task and the link that it has in hand. `step` of the rules
 -- says the same on the table; the crate exact has the two agree.
-use Rattle.table.specs.declared.Record.{Record}
-use Rattle.table.specs.declared.Change.{Change}
-use Rattle.table.specs.declared.Task.{Task}
-use Rattle.table.specs.declared.Link.{Link}
-use Rattle.table.specs.declared.Access.{Access}
+use Rattle.rules.specs.Words.{Record, Change, Task, Link, Access}
 use Rattle.table.specs.Table.{pick, noCells}
 use Rattle.rules.specs.Perform.{seenBy, recordBy, changeBy}
 use Rattle.rules.specs.Resume.{resume}

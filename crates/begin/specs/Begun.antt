@@ -5,28 +5,23 @@ use mathlib.Core.Bool.{false}
 use mathlib.Core.List.{List, [], _∷_}
 use lib.ListN.{getD, replicate}
 use lib.Dec.{ltb}
-use Rattle.table.specs.declared.Cell.{Cell}
-use Rattle.table.specs.declared.State.the-variants.{InProgress}
-use Rattle.table.specs.declared.Change.{Change}
-use Rattle.table.specs.declared.After.the-variants.{Own}
-use Rattle.table.specs.declared.Place.{Place}
-use Rattle.table.specs.declared.Place.the-variants.{L1, H1, Vlx, Read}
-use Rattle.table.specs.declared.Task.{Task}
-use Rattle.table.specs.declared.Link.{Link}
-use Rattle.table.specs.declared.Ask.{Ask}
-use Rattle.table.specs.declared.Ask.the-variants.{Llx as AskLlx, Scx as AskScx, Vlx as AskVlx, Read as AskRead, Step as AskStep}
-use Rattle.table.specs.Table.{pick, cellAt, noLink}
+use Rattle.rules.specs.Words.{Cell, InProgress, Change, Own, Place, L1, H1, Vlx, Read, Task, Link}
+use Rattle.rules.specs.Words.{Ask, AskLlx, AskScx, AskVlx, AskRead, AskStep}
+use Rattle.table.specs.Table.{pick, cellAt, noLink, maxChanges}
 use Rattle.rules.specs.Start.{places}
 use Rattle.begin.specs.declared.Begun.{Begun}
 
+-- the number that an SCX takes, 0 where all are used
 abbrev pub nextNumber : ℕ → ℕ
-nextNumber used = pick (ltb used 255) (used + 1) 0
+nextNumber used = pick (ltb used maxChanges) (used + 1) 0
 
+-- for each place of V the info of its link, 0 past n
 abbrev pub infoIn : ℕ → ℕ → Link → ℕ
 infoIn n i link = pick (ltb i n) (link .info) 0
 
 abbrev pub infosIn : ℕ → List Link → List ℕ
-infosIn n ls = infoIn n 0 (getD ls 0 noLink) ∷ infoIn n 1 (getD ls 1 noLink) ∷ infoIn n 2 (getD ls 2 noLink) ∷ infoIn n 3 (getD ls 3 noLink) ∷ []
+infosIn n ls =
+    infoIn n 0 (getD ls 0 noLink) ∷ infoIn n 1 (getD ls 1 noLink) ∷ infoIn n 2 (getD ls 2 noLink) ∷ infoIn n 3 (getD ls 3 noLink) ∷ []
 
 abbrev pub oldIn : List Link → ℕ → ℕ → Cell
 oldIn ls written field = cellAt (getD ls written noLink .cells) field

@@ -1,6 +1,6 @@
 // What an access sees in the record and the change that it touches, and what it leaves in each.
 ghost use mathlib.Core.Path.{_≡_};
-ghost use Rattle.table.specs.declared.Access.the-variants.{Hold, Close, Write, Freeze};
+ghost use Rattle.rules.specs.Words.{Hold, Close, Write, Freeze};
 ghost use Rattle.table.specs.Table.{stateOf};
 ghost use Rattle.rules.specs.Perform.{sawNothing, sawBit, sawNumber, sawCell, sawState, seenBy, recordBy, changeBy};
 use table::Access;

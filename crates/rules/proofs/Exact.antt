@@ -5,7 +5,6 @@ use native.Mathlib.Nat.{le-trans, not-suc-le-zero, eq-or-lt-of-le, le-of-suc-le-
 use mathlib.Core.Path.{_≡_, refl}
 use mathlib.Core.Logic.{⊎-elim}
 use mathlib.Core.Bool.{Bool, true, false, false≢true}
-use lib.Dec.{ltb, leb}
 use borrow.Author.Tests.{ltb-true, leb-true, lt-ltb, le-leb}
 use Rattle.rules.specs.Claim.{Claim, always, less, known, holds, _&_, each, when, both, given, allBelow, test, Says}
 

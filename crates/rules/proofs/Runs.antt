@@ -14,10 +14,12 @@ use Rattle.rules.specs.Runs.{stated, played, runs}
 use Rattle.rules.specs.MoreRuns.{more}
 
 pub as-stated : map played runs ≡ map stated runs
-unfolding tabulate sameCell freshRecords freshMachine fresh seen perform dropFirst settle accessAt moveAt step both given allBelow shape inShape start linkedAt rulesOf refused started next after said played runs
+unfolding tabulate sameCell freshRecords freshMachine fresh seen perform dropFirst settle accessAt moveAt step
+    both given allBelow shape inShape start linkedAt rulesOf refused started next after said played runs
 as-stated = refl
 
 -- the same of the rows beyond those
 pub more-as-stated : map played more ≡ map stated more
-unfolding tabulate sameCell freshRecords freshMachine fresh seen perform dropFirst settle accessAt moveAt step both given allBelow shape inShape start linkedAt rulesOf refused started next after said played more
+unfolding tabulate sameCell freshRecords freshMachine fresh seen perform dropFirst settle accessAt moveAt step
+    both given allBelow shape inShape start linkedAt rulesOf refused started next after said played more
 more-as-stated = refl

@@ -1,3 +1,4 @@
+-- The modules of specs/, each after those that it uses.
 pub mod Words
 pub mod Access
 pub mod Perform

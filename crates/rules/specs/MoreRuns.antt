@@ -1,5 +1,4 @@
 -- MORE RUNS, in the form of Runs.antt: sentences of document 01, mistakes that it names among them, that no run marked p shows.
-use Prim.Native.Nat.{ℕ}
 use mathlib.Core.Bool.{true, false}
 use mathlib.Core.List.{List, [], _∷_, _++_}
 use lib.ListN.{replicate}
@@ -83,7 +82,7 @@ more =
     (reads A 0 fives
     ++ (call (scx A 1 (0 ∷ 0 ∷ 0 ∷ 0 ∷ []) 1 0 0 7) 0 [] ∷ call (llx B 0) 0 [] ∷ steps B 1 0 [] ∷ steps A 5 4 [] ∷ steps B 6 3 [] ∷ []))
     ((true, sevenFirst, firstBy 1) ∷ asMade fives ∷ [])
-    -- L8 with m1 yes and the change committed since L7: on to L9, Fail on step 8 (READINGS 9)
+    -- L8 with m1 yes and the change committed since L7: on to L9, Fail on step 8
     ∷ onTwo
     (reads A 0 fives
     ++ (call (scx A 1 (0 ∷ 0 ∷ 0 ∷ 0 ∷ []) 1 0 0 7) 0 []

@@ -1,11 +1,11 @@
--- THE SHAPE: document 01's sentence, its phrases above what renders them. What no line names is ignored: entries beyond the counts, the info and cells of
--- a link that is none, list or cells that the task's place does not use, and entry 0 of the changes.
+-- THE SHAPE: document 01's sentence, its phrases above what renders them. What no line names is ignored: entries beyond the counts,
+-- the info and cells of a link that is none or dropped, list or cells that the task's place does not use, and entry 0 of the changes.
 use Prim.Native.Nat.{ℕ, suc}
 use mathlib.Core.Bool.{Bool, false, not}
 use mathlib.Core.List.{List}
 use lib.ListN.{getD}
 use lib.Dec.{eqb}
-use Rattle.rules.specs.Words.{Cell, Record, Change, Link, Task, Machine, After, Own, AtL8, AtL11}
+use Rattle.rules.specs.Words.{Cell, Record, Change, Link, Machine, After, Own, AtL8, AtL11}
 use Rattle.rules.specs.Words.{Place, Idle, L1, L2, L3, L4, L5, L6, L7, L8, L9, L10, L11, H1, H2, H3, H4, H5, H6, H7, H8, Vlx, Read}
 use Rattle.table.specs.Table.{cellAt, recordAt, changeAt, taskAt, linkAt, maxTasks, maxRecords, maxChanges, maxList, maxFields}
 use Rattle.rules.specs.Access.{changeOf}

@@ -3,7 +3,7 @@ use Prim.Native.Nat.{ℕ}
 use mathlib.Core.Bool.{Bool}
 use mathlib.Core.List.{List}
 use lib.ListN.{getD}
-use Rattle.table.specs.declared.Link.{Link}
+use Rattle.rules.specs.Words.{Link}
 use Rattle.table.specs.Table.{noLink, slot}
 
 abbrev pub linkedIn : List Link → ℕ → ℕ → Bool

@@ -26,7 +26,17 @@ reported-requires : tie.Need-reported-requires
 reported-requires c κs = search needs
 
 returns : tie.Need-returns
-returns c = act-is _ _ _ _ _ _ _ _ _ _ _ _ (c .before .before .before .before .before .before .seen-by .ensures) (c .before .before .before .before .before .resume .ensures) (c .before .before .before .before .record-by .ensures) (c .before .before .before .change-by .ensures) (c .before .before .task-by .ensures) (c .before .link-by .ensures) (c .reported .ensures)
+returns c =
+    let task = c .before .before in
+    let rec = task .before .before in
+    act-is _ _ _ _ _ _ _ _ _ _ _ _
+    (rec .before .before .seen-by .ensures)
+    (rec .before .resume .ensures)
+    (rec .record-by .ensures)
+    (task .before .change-by .ensures)
+    (task .task-by .ensures)
+    (c .before .link-by .ensures)
+    (c .reported .ensures)
 
 pub act-spec : {M : Type 1} → statement M
 act-spec =

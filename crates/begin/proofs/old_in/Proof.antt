@@ -2,7 +2,6 @@
 use Rattle.four.proofs.Past.{past}
 use Rattle.table.specs.Table.{noLink}
 use mathlib.Core.Path.{refl}
-use borrow.Author.Tests.{le-ltb}
 use borrow.Author.Needs.{needs}
 use Rattle.begin.proofs.old_in.Statement.{statement}
 use Rattle.begin.proofs.old_in.Tie as tie

@@ -40,7 +40,9 @@ returns : tie.Need-returns
 returns c = simp (c .before .before .ask .given .1, c .put .ensures)
 
 returns-2 : tie.Need-returns-2
-returns-2 c = simp (c .before .before .before .before .ask2 .given .1, c .put2 .ensures, c .before .filled .ensures, c .before .before .next-number .ensures)
+returns-2 c =
+    let d = c .before .before in
+    simp (d .before .before .ask2 .given .1, c .put2 .ensures, c .before .filled .ensures, d .next-number .ensures)
 
 returns-3 : tie.Need-returns-3
 returns-3 c = simp (c .before .before .ask3 .given .1, c .put3 .ensures)

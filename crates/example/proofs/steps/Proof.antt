@@ -1,4 +1,4 @@
--- `example::steps` is safe and ends: the measure is the number of STEPs that are left. Nothing has to hold from turn to turn.
+-- `example::steps` is safe and ends: the measure is the number of STEPs that are left. Nothing has to hold from one to the next.
 use Prim.Native.Nat.{_-_}
 use native.Mathlib.Omega.{arith}
 use Rattle.example.proofs.steps.Statement.{statement}

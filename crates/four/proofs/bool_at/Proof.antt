@@ -1,7 +1,6 @@
 -- `four::bool_at` meets its contract.
 use mathlib.Core.Bool.{false}
 use Rattle.four.proofs.Past.{past}
-use borrow.Author.Tests.{le-ltb}
 use borrow.Author.Needs.{needs}
 use Rattle.four.proofs.bool_at.Statement.{statement}
 use Rattle.four.proofs.bool_at.Tie as tie

@@ -1,7 +1,6 @@
 -- `four::cell_at` meets its contract.
 use Rattle.table.specs.Table.{noCell}
 use Rattle.four.proofs.Past.{past}
-use borrow.Author.Tests.{le-ltb}
 use borrow.Author.Needs.{needs}
 use Rattle.four.proofs.cell_at.Statement.{statement}
 use Rattle.four.proofs.cell_at.Tie as tie

@@ -1,6 +1,5 @@
 -- `four::number_at` meets its contract.
 use Rattle.four.proofs.Past.{past}
-use borrow.Author.Tests.{le-ltb}
 use borrow.Author.Needs.{needs}
 use Rattle.four.proofs.number_at.Statement.{statement}
 use Rattle.four.proofs.number_at.Tie as tie

@@ -1,6 +1,5 @@
 -- `four::with_cell` meets its contract.
 use Rattle.four.proofs.Past.{past-set}
-use borrow.Author.Tests.{le-ltb}
 use borrow.Author.Needs.{needs}
 use Rattle.four.proofs.with_cell.Statement.{statement}
 use Rattle.four.proofs.with_cell.Tie as tie

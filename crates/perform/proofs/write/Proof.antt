@@ -14,7 +14,9 @@ with-cell-requires : tie.Need-with-cell-requires
 with-cell-requires c κs = search needs
 
 returns : tie.Need-returns
-returns c = simp (simp (c .before .before .before .cell-at .ensures) at (sym (c .before .before .same-cell .ensures) ∙ c .before .if1 .taken), c .with-cell .ensures)
+returns c =
+    let d = c .before in
+    simp (simp (d .before .before .cell-at .ensures) at (sym (d .before .same-cell .ensures) ∙ d .if1 .taken), c .with-cell .ensures)
 
 returns-2 : tie.Need-returns-2
 returns-2 c = simp (simp (c .before .before .cell-at .ensures) at (sym (c .before .same-cell .ensures) ∙ c .if1 .left))

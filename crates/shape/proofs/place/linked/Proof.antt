@@ -1,7 +1,7 @@
 -- `shape::place::linked`: within the links the one that stands there, past them none.
 use mathlib.Core.Path.{ap}
 use borrow.Author.Needs.{needs}
-use Rattle.table.specs.declared.Link.{Link}
+use Rattle.rules.specs.Words.{Link}
 use Rattle.table.specs.Table.{noLink}
 use Rattle.four.proofs.Past.{past}
 use Rattle.shape.proofs.place.linked.Statement.{statement}
