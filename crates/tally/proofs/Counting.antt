@@ -25,7 +25,7 @@ at-most-one true = omega arith
 at-most-one false = omega arith
 
 -- each number is at most the length of the list
-pub counts-most : (f : Told → Bool) (l : List Told) → counts f l ≤ length l
+counts-most : (f : Told → Bool) (l : List Told) → counts f l ≤ length l
 unfolding counts
 counts-most f [] = omega arith
 counts-most f (x ∷ l) = omega (arith, at-most-one (f x), counts-most f l)
@@ -44,7 +44,7 @@ pub counted-is : (l : List Told) (x : Told) → length l < 65535 → countedOf (
 unfolding tallyOf countedOf
 counted-is l x h = λ k. record { made = number-is isMade l x h k; no = number-is isNo l x h k; fail = number-is isFail l x h k }
 
-pub length-first : (f : ℕ → Told) (n : ℕ) → length (firstOf f n) ≡ n
+length-first : (f : ℕ → Told) (n : ℕ) → length (firstOf f n) ≡ n
 unfolding firstOf
 length-first f zero = refl
 length-first f (suc n) =
@@ -63,8 +63,3 @@ unfolding firstOf
 counted-next f i h =
     counted-is (firstOf f i) (f i) (omega (arith, length-first f i))
     ∙ ap (λ (n : ℕ). tallyOf (firstOf f n)) (sym (add-one i))
-
--- none of the three is above the number of answers
-pub tally-most : (l : List Told) → (tallyOf l .made ≤ length l) × (tallyOf l .no ≤ length l) × (tallyOf l .fail ≤ length l)
-unfolding tallyOf
-tally-most l = (counts-most isMade l, counts-most isNo l, counts-most isFail l)

@@ -1,4 +1,5 @@
 -- The digits of a number say that number: they read back as it, and do not begin with a 0 unless it is 0.
+-- And a line, computed.
 use Prim.Native.Nat.{ℕ, _+_, _-_, _*_, _/_, _<_}
 use native.Mathlib.Omega.{arith}
 use mathlib.Core.Path.{_≡_, refl}

@@ -13,8 +13,8 @@ use borrow.Author.Tests.{leb-true, leb-false, le-leb, lt-leb}
 use Rattle.text.specs.Text.{joined}
 use Rattle.text.specs.Put.{past, Put}
 
--- the place after a text that fits, and after one that does not
-pub past-in : (size at k : ℕ) → at + k ≤ size → past size at k ≡ at + k
+-- the position after a text that fits, and after one that does not
+past-in : (size at k : ℕ) → at + k ≤ size → past size at k ≡ at + k
 unfolding past
 past-in size at k h = rw (le-leb (at + k) size h) refl
 
@@ -26,7 +26,7 @@ past-out : (size at k : ℕ) → size < at → past size at k ≡ at
 unfolding past
 past-out size at k h = rw (lt-leb (at + k) size (omega arith), lt-leb at size h) refl
 
--- one place after another
+-- one position after another
 past-past : (size at j k : ℕ) → past size (past size at j) k ≡ past size at (j + k)
 past-past size at j k = go (leb (at + j) size) (leb (at + (j + k)) size) (leb at size) refl refl refl
   where

@@ -32,23 +32,24 @@ digits-most x =
     (lead-most (x / 10)))
     (omega arith)
 
--- pieces of at most k bytes
-pub joined-most : (f : ℕ → List ℕ) (k n : ℕ) → ((i : ℕ) → length (f i) ≤ k) → length (joined f n) ≤ k * n
-unfolding joined
-joined-most f k zero h = omega arith
-joined-most f k (suc n) h = rw mul-suc (both-most (joined f n) (f n) (k * n) k (joined-most f k n h) (h n))
-
--- one piece more, in a loop
-pub most-again : (f : ℕ → List ℕ) (k i : ℕ) → length (joined f i) ≤ k * i → length (f i) ≤ k → length (joined f (i + 1)) ≤ k * (i + 1)
-unfolding joined
-most-again f k i h g = rw (add-one, mul-suc) (both-most (joined f i) (f i) (k * i) k h g)
-
+-- pieces of at most k bytes each, in a loop: none, and one more
 pub most-none : (f : ℕ → List ℕ) (k : ℕ) → length (joined f 0) ≤ k * 0
 unfolding joined
 most-none f k = omega arith
 
+pub most-again : (f : ℕ → List ℕ) (k i : ℕ) → length (joined f i) ≤ k * i → length (f i) ≤ k → length (joined f (i + 1)) ≤ k * (i + 1)
+unfolding joined
+most-again f k i h g = rw (add-one, mul-suc) (both-most (joined f i) (f i) (k * i) k h g)
+
+-- and all of them
+joined-most : (f : ℕ → List ℕ) (k n : ℕ) → ((i : ℕ) → length (f i) ≤ k) → length (joined f n) ≤ k * n
+joined-most f k zero h = most-none f k
+joined-most f k (suc n) h = rw (← add-one) (most-again f k n (joined-most f k n h) (h n))
+
 pub row-most : (xs : List ℕ) → length (row xs) ≤ 6 * length xs
-row-most xs = joined-most (wordAt xs) 6 (length xs) (λ i. both-most (digits (getD xs i 0)) (ended (length xs) i ∷ []) 5 1 (digits-most (getD xs i 0)) (omega arith))
+row-most xs =
+    joined-most (wordAt xs) 6 (length xs)
+    (λ i. both-most (digits (getD xs i 0)) (ended (length xs) i ∷ []) 5 1 (digits-most (getD xs i 0)) (omega arith))
 
 pub lettered-most : (letter : ℕ) (xs : List ℕ) → length (lettered letter xs) ≤ 2 + 6 * length xs
 lettered-most letter xs = both-most ((letter ∷ []) ++ (32 ∷ [])) (row xs) 2 (6 * length xs) (omega arith) (row-most xs)

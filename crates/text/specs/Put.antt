@@ -1,4 +1,4 @@
--- WRITING INTO A LENT BUFFER: a text stands from a place on, as far as it fits; the place after it; and the buffer's length stays.
+-- WRITING INTO A LENT BUFFER: a text stands from a position on, as far as it fits; the position after it; and the buffer's length stays.
 -- Writing one text and then another is writing both, whether they fit or not, so nobody who writes a line has to ask for room.
 use Prim.Native.Nat.{ℕ, _+_}
 use mathlib.Core.Path.{_≡_}
@@ -8,7 +8,7 @@ use lib.ListN.{length}
 use lib.Seq.{sets}
 use Rattle.table.specs.Table.{pick}
 
--- the place k bytes after at, in a buffer of that many bytes: the end where it would lie beyond, and at where even that does
+-- the position k bytes after at, in a buffer of that many bytes: the end where it would lie beyond, and at where even that does
 unfoldable pub past : ℕ → ℕ → ℕ → ℕ
 past size at k = pick (leb (at + k) size) (at + k) (pick (leb at size) size at)
 

@@ -1,4 +1,5 @@
--- `tally::count` meets its contract: a walk of its MIR, by hand. The borrow is opened, the struct is copied out and passed to `counted`, whose result is stored back, and the borrow is closed at it. All that the proof knows of `counted` is that it meets its contract.
+-- `tally::count` meets its contract: a walk of its MIR, by hand. The borrow is opened, the struct is copied out and passed to
+-- `counted`, whose result is stored back, and the borrow is closed at it. All that the proof knows of `counted` is that it meets its contract.
 -- What was told is a struct by value, passed on as it came.
 use mathlib.Core.Path.{_≡_, refl}
 use Prim.Native.Nat.{ℕ}

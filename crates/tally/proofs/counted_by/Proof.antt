@@ -1,4 +1,5 @@
--- `tally::counted_by` meets its contract: a walk of its MIR, by hand. A local is lent by `&mut` to `count` for a lifetime that the walk makes, the lifetime is ended, and the local is read. All that the proof knows of `count` is that it meets its contract.
+-- `tally::counted_by` meets its contract: a walk of its MIR, by hand. A local is lent by `&mut` to `count` for a lifetime that
+-- the walk makes, the lifetime is ended, and the local is read. All that the proof knows of `count` is that it meets its contract.
 use mathlib.Core.Path.{_≡_, refl, ap, sym, subst}
 use Prim.Native.Nat.{ℕ}
 use mathlib.Core.List.{[], _∷_, List}

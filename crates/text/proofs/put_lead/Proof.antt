@@ -1,5 +1,4 @@
 -- `text::put_lead` meets its contract.
-use borrow.Author.Tests.{eq-eqb, ne-eqb}
 use Rattle.text.specs.Text.{lead}
 use Rattle.text.proofs.Laws.{nothing}
 use borrow.Author.Tests.{eq-eqb, ne-eqb}
