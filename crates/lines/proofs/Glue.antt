@@ -1,10 +1,10 @@
--- The values of four cells, one by one, and how long a line can be.
+-- The values of four cells, one by one; how long a line can be; and the line of an answer, by the case it is.
 use Prim.Native.Nat.{ℕ, _*_, _≤_}
 use native.Mathlib.Omega.{arith}
-use mathlib.Core.Path.{_≡_, refl, subst, ap₂}
+use mathlib.Core.Path.{_≡_, refl, sym, subst, ap₂}
+use mathlib.Core.Bool.{Bool}
 use mathlib.Core.List.{List, [], _∷_, map}
 use lib.ListN.{length, length-map}
-use mathlib.Core.Bool.{Bool}
 use Rattle.rules.specs.Words.{Cell, Refusal, Answer, Accepted, Snapshot, Finalized, Fail, Yes, No, Value, Refused}
 use Rattle.rules.specs.Answer.{refusalNumber, number, values}
 use Rattle.table.specs.Table.{cellAt}
@@ -27,7 +27,7 @@ row-within : (xs : List ℕ) (k : ℕ) → length xs ≤ k → length (row xs) �
 row-within xs k h = omega (arith, row-most xs)
 
 -- at most seven numbers of an event
-pub answer-most : (k t : ℕ) (answer : Answer) (cells : List Cell) → length cells ≡ 4 → length (answerLine k t answer cells) ≤ 42
+answer-most : (k t : ℕ) (answer : Answer) (cells : List Cell) → length cells ≡ 4 → length (answerLine k t answer cells) ≤ 42
 unfolding answerLine
 answer-most k t Accepted cells h = row-within (k ∷ t ∷ 0 ∷ []) 7 (omega arith)
 answer-most k t Snapshot cells h =
@@ -39,7 +39,7 @@ answer-most k t No cells h = row-within (k ∷ t ∷ 5 ∷ []) 7 (omega arith)
 answer-most k t (Value cell) cells h = row-within (k ∷ t ∷ 6 ∷ cell .value ∷ []) 7 (omega arith)
 answer-most k t (Refused why) cells h = row-within (k ∷ t ∷ refusalNumber why ∷ []) 7 (omega arith)
 
--- a letter and six numbers of a record, four at most of the tally, one of a refused sheet
+-- a letter, and six numbers of a record, three of the tally, one of a refused sheet
 pub cells-most : (r : ℕ) (mark : Bool) (cells : List Cell) → length cells ≡ 4 → length (cellsLine r mark cells) ≤ 38
 cells-most r mark cells h =
     let xs = r ∷ bit mark ∷ map (λ c. c .value) cells in
@@ -53,13 +53,13 @@ pub refusal-most : (why : Refusal) → length (refusalLine why) ≤ 8
 unfolding refusalLine
 refusal-most why = lettered-most 88 (refusalNumber why ∷ [])
 
--- an answer's line, by its number and its values
-pub lined : (old : List ℕ) (at k t said : ℕ) (answer : Answer) (cells : List Cell) (vs new : List ℕ) (r : ℕ) → said ≡ number answer → vs ≡ values answer cells
-    → length cells ≡ 4
-    → Put old at (row (k ∷ t ∷ said ∷ vs)) new r
+-- an answer's line: its number was told, and its values are those of the case it is
+pub lined : {old new : List ℕ} {at said r : ℕ} {answer is : Answer} (k t : ℕ) (cells : List Cell) → answer ≡ is → said ≡ number answer → length cells ≡ 4
+    → Put old at (row (k ∷ t ∷ said ∷ values is cells)) new r
     → Put old at (answerLine k t answer cells) new r × (length (answerLine k t answer cells) ≤ 42)
 unfolding answerLine
-lined old at k t said answer cells vs new r en ev four put = (
-  subst (λ (xs : List ℕ). Put old at (row xs) new r) (ap₂ (λ (x : ℕ) (xs : List ℕ). k ∷ t ∷ x ∷ xs) en ev) put,
+lined {old} {new} {at} {r = r} {answer = answer} k t cells ea en four put = (
+  subst (λ (xs : List ℕ). Put old at (row xs) new r)
+      (ap₂ (λ (x : ℕ) (a : Answer). k ∷ t ∷ x ∷ values a cells) en (sym ea)) put,
   answer-most k t answer cells four,
 )

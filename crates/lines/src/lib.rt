@@ -65,12 +65,14 @@ pub fn put_answer(out: &mut [u8], at: usize, k: u16, t: u8, answer: Answer, cell
     }
 }
 
+// Yes is 1, no is 0.
 fn bit(b: bool) -> u16
     ensures { λ o. ⌜ o ≡ bit b ⌝ }
 {
     if b { 1 } else { 0 }
 }
 
+// The line of record r, of its mark and its cells.
 fn put_cells(out: &mut [u8], at: usize, r: u8, mark: bool, cells: Cells) -> usize
     ensures { λ o. ⌜ Put (now (out .entry)) at (cellsLine r mark cells) (now (out .exit)) o × (length (cellsLine r mark cells) ≤ 38) ⌝ }
 {

@@ -1,7 +1,5 @@
 -- `lines::put_answer` meets its contract.
-use mathlib.Core.Path.{sym, ap}
 use borrow.Author.Needs.{needs}
-use Rattle.rules.specs.Answer.{values}
 use Rattle.lines.proofs.Glue.{lined}
 use Rattle.lines.proofs.put_answer.Statement.{statement}
 use Rattle.lines.proofs.put_answer.Tie as tie
@@ -61,49 +59,65 @@ same-length : tie.Need-same-length
 same-length c = search needs
 
 returns : tie.Need-returns
-returns c = lined _ _ _ _ _ (c .before .before .before .before .before .before .before .before .args .answer) (c .before .before .before .before .before .before .before .before .args .cells) _ _ _ (c .before .before .before .before .before .before .number-of .ensures) (sym (ap (λ a. values a (c .before .before .before .before .before .before .before .before .args .cells)) (c .before .before .before .before .enum-told .given .1))) (search needs) (c .before .before .put-bare .ensures)
+returns c =
+    lined _ _ _ (c .before .before .before .before .enum-told .given .1) (c .before .before .before .before .before .before .number-of .ensures) (search needs)
+    (c .before .before .put-bare .ensures)
 
 same-length-2 : tie.Need-same-length-2
 same-length-2 c = search needs
 
 returns-2 : tie.Need-returns-2
-returns-2 c = lined _ _ _ _ _ (c .before .before .before .before .before .before .before .before .args .answer) (c .before .before .before .before .before .before .before .before .args .cells) _ _ _ (c .before .before .before .before .before .before .number-of .ensures) (sym (ap (λ a. values a (c .before .before .before .before .before .before .before .before .args .cells)) (c .before .before .before .before .enum-told2 .given .1))) (search needs) (c .before .before .put-snapshot .ensures)
+returns-2 c =
+    lined _ _ _ (c .before .before .before .before .enum-told2 .given .1) (c .before .before .before .before .before .before .number-of .ensures) (search needs)
+    (c .before .before .put-snapshot .ensures)
 
 same-length-3 : tie.Need-same-length-3
 same-length-3 c = search needs
 
 returns-3 : tie.Need-returns-3
-returns-3 c = lined _ _ _ _ _ (c .before .before .before .before .before .before .before .before .args .answer) (c .before .before .before .before .before .before .before .before .args .cells) _ _ _ (c .before .before .before .before .before .before .number-of .ensures) (sym (ap (λ a. values a (c .before .before .before .before .before .before .before .before .args .cells)) (c .before .before .before .before .enum-told3 .given .1))) (search needs) (c .before .before .put-bare2 .ensures)
+returns-3 c =
+    lined _ _ _ (c .before .before .before .before .enum-told3 .given .1) (c .before .before .before .before .before .before .number-of .ensures) (search needs)
+    (c .before .before .put-bare2 .ensures)
 
 same-length-4 : tie.Need-same-length-4
 same-length-4 c = search needs
 
 returns-4 : tie.Need-returns-4
-returns-4 c = lined _ _ _ _ _ (c .before .before .before .before .before .before .before .before .args .answer) (c .before .before .before .before .before .before .before .before .args .cells) _ _ _ (c .before .before .before .before .before .before .number-of .ensures) (sym (ap (λ a. values a (c .before .before .before .before .before .before .before .before .args .cells)) (c .before .before .before .before .enum-told4 .given .1))) (search needs) (c .before .before .put-bare3 .ensures)
+returns-4 c =
+    lined _ _ _ (c .before .before .before .before .enum-told4 .given .1) (c .before .before .before .before .before .before .number-of .ensures) (search needs)
+    (c .before .before .put-bare3 .ensures)
 
 same-length-5 : tie.Need-same-length-5
 same-length-5 c = search needs
 
 returns-5 : tie.Need-returns-5
-returns-5 c = lined _ _ _ _ _ (c .before .before .before .before .before .before .before .before .args .answer) (c .before .before .before .before .before .before .before .before .args .cells) _ _ _ (c .before .before .before .before .before .before .number-of .ensures) (sym (ap (λ a. values a (c .before .before .before .before .before .before .before .before .args .cells)) (c .before .before .before .before .enum-told5 .given .1))) (search needs) (c .before .before .put-bare4 .ensures)
+returns-5 c =
+    lined _ _ _ (c .before .before .before .before .enum-told5 .given .1) (c .before .before .before .before .before .before .number-of .ensures) (search needs)
+    (c .before .before .put-bare4 .ensures)
 
 same-length-6 : tie.Need-same-length-6
 same-length-6 c = search needs
 
 returns-6 : tie.Need-returns-6
-returns-6 c = lined _ _ _ _ _ (c .before .before .before .before .before .before .before .before .args .answer) (c .before .before .before .before .before .before .before .before .args .cells) _ _ _ (c .before .before .before .before .before .before .number-of .ensures) (sym (ap (λ a. values a (c .before .before .before .before .before .before .before .before .args .cells)) (c .before .before .before .before .enum-told6 .given .1))) (search needs) (c .before .before .put-bare5 .ensures)
+returns-6 c =
+    lined _ _ _ (c .before .before .before .before .enum-told6 .given .1) (c .before .before .before .before .before .before .number-of .ensures) (search needs)
+    (c .before .before .put-bare5 .ensures)
 
 same-length-7 : tie.Need-same-length-7
 same-length-7 c = search needs
 
 returns-7 : tie.Need-returns-7
-returns-7 c = lined _ _ _ _ _ (c .before .before .before .before .before .before .before .before .before .args .answer) (c .before .before .before .before .before .before .before .before .before .args .cells) _ _ _ (c .before .before .before .before .before .before .before .number-of .ensures) (sym (ap (λ a. values a (c .before .before .before .before .before .before .before .before .before .args .cells)) (c .before .before .before .before .before .answer .given .1))) (search needs) (c .before .before .put-value .ensures)
+returns-7 c =
+    lined _ _ _ (c .before .before .before .before .before .answer .given .1) (c .before .before .before .before .before .before .before .number-of .ensures) (search needs)
+    (c .before .before .put-value .ensures)
 
 same-length-8 : tie.Need-same-length-8
 same-length-8 c = search needs
 
 returns-8 : tie.Need-returns-8
-returns-8 c = lined _ _ _ _ _ (c .before .before .before .before .before .before .before .before .args .answer) (c .before .before .before .before .before .before .before .before .args .cells) _ _ _ (c .before .before .before .before .before .before .number-of .ensures) (sym (ap (λ a. values a (c .before .before .before .before .before .before .before .before .args .cells)) (c .before .before .before .before .enum-told7 .given .1))) (search needs) (c .before .before .put-bare6 .ensures)
+returns-8 c =
+    lined _ _ _ (c .before .before .before .before .enum-told7 .given .1) (c .before .before .before .before .before .before .number-of .ensures) (search needs)
+    (c .before .before .put-bare6 .ensures)
 
 pub put-answer-spec : {M : Type 1} → statement M
 put-answer-spec =

@@ -1,6 +1,8 @@
 -- `lines::put_cells` meets its contract.
-use Rattle.lines.proofs.Glue.{four-values, cells-most}
+use mathlib.Core.Path.{_≡_}
+use lib.ListN.{length}
 use borrow.Author.Needs.{needs}
+use Rattle.lines.proofs.Glue.{four-values, cells-most}
 use Rattle.lines.proofs.put_cells.Statement.{statement}
 use Rattle.lines.proofs.put_cells.Tie as tie
 
@@ -29,7 +31,13 @@ same-length : tie.Need-same-length
 same-length c = search needs
 
 returns : tie.Need-returns
-returns c = (rw (← four-values (c .before .before .before .before .before .before .before .before .before .before .before .args .t5) (search needs), ← c .before .before .before .before .before .bit .ensures) (c .before .before .put-lettered .ensures), cells-most (c .before .before .before .before .before .before .before .before .before .before .before .args .r) (c .before .before .before .before .before .before .before .before .before .before .before .args .mark) (c .before .before .before .before .before .before .before .before .before .before .before .args .t5) (search needs))
+returns c =
+    let cells = c .before .before .before .before .before .before .before .before .before .before .before .args .t5 in
+    let four : length cells ≡ 4 = search needs in (
+      rw (← four-values cells four, ← c .before .before .before .before .before .bit .ensures) (c .before .before .put-lettered .ensures),
+      cells-most (c .before .before .before .before .before .before .before .before .before .before .before .args .r)
+          (c .before .before .before .before .before .before .before .before .before .before .before .args .mark) cells four,
+    )
 
 pub put-cells-spec : {M : Type 1} → statement M
 put-cells-spec =

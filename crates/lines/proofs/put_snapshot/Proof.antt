@@ -26,7 +26,9 @@ same-length : tie.Need-same-length
 same-length c = search needs
 
 returns : tie.Need-returns
-returns c = rw (← four-values (c .before .before .before .before .before .before .before .before .before .before .args .t6) (search needs)) (c .before .before .put-row .ensures)
+returns c =
+    let cells = c .before .before .before .before .before .before .before .before .before .before .args .t6 in
+    rw (← four-values cells (search needs)) (c .before .before .put-row .ensures)
 
 pub put-snapshot-spec : {M : Type 1} → statement M
 put-snapshot-spec =
