@@ -13,7 +13,7 @@ use Rattle.sheet.specs.Layout.{byte, callOf, eventFine}
 use Rattle.sheet.specs.Event.{twelveAt, unusedSum}
 use Rattle.sheet.proofs.Unused.{all-unused}
 
-pub from-part : (s : List ℕ) (j : ℕ) → tabulate 12 (λ k. byte s (j + k)) ≡ tabulate 12 (byte (drop j s))
+from-part : (s : List ℕ) (j : ℕ) → tabulate 12 (λ k. byte s (j + k)) ≡ tabulate 12 (byte (drop j s))
 unfolding tabulate
 from-part s j = simp getD-drop
 
@@ -22,7 +22,9 @@ unfolding tabulate
 twelve s j = simp (getD-drop, add-zero)
 
 pub eight : (s : List ℕ) (j : ℕ)
-    → _≡_ {A = List ℕ} (byte s j ∷ byte s (j + 1) ∷ byte s (j + 2) ∷ byte s (j + 3) ∷ byte s (j + 4) ∷ byte s (j + 5) ∷ byte s (j + 6) ∷ byte s (j + 7) ∷ []) (tabulate 8 (byte (drop j s)))
+    → _≡_ {A = List ℕ}
+    (byte s j ∷ byte s (j + 1) ∷ byte s (j + 2) ∷ byte s (j + 3) ∷ byte s (j + 4) ∷ byte s (j + 5) ∷ byte s (j + 6) ∷ byte s (j + 7) ∷ [])
+    (tabulate 8 (byte (drop j s)))
 unfolding tabulate
 eight s j = simp (getD-drop, add-zero)
 

@@ -1,6 +1,5 @@
 -- What the writing loops leave in the buffer: the bytes that they have passed, written over the old ones.
-use Prim.Native.Nat.{ℕ, suc, _+_, _*_, _/_, _%_, _<_}
-use native.Mathlib.Nat.{add-zero, add-suc, suc-add}
+use Prim.Native.Nat.{ℕ, _+_, _*_, _/_, _%_, _<_}
 use native.Mathlib.Numerals.{add-one}
 use native.Mathlib.Omega.{arith}
 use mathlib.Core.Path.{_≡_, refl, ap}
@@ -16,7 +15,7 @@ pub byte-more : (old : List ℕ) (at i : ℕ) (bytes : List ℕ) → i < length 
 byte-more old at i bytes l =
     rw (add-one, take-suc bytes i 0 l, sets-append (take i bytes) (getD bytes i 0 ∷ []) old at, length-take-le i bytes (omega arith)) refl
 
-pub value-bytes-append : (a b : List ℕ) → valueBytes (a ++ b) ≡ valueBytes a ++ valueBytes b
+value-bytes-append : (a b : List ℕ) → valueBytes (a ++ b) ≡ valueBytes a ++ valueBytes b
 unfolding valueBytes
 value-bytes-append [] b = refl
 value-bytes-append (v ∷ a) b = ap (λ (l : List ℕ). v % 256 ∷ v / 256 % 256 ∷ l) (value-bytes-append a b)
@@ -36,7 +35,10 @@ pub value-more : (old : List ℕ) (i : ℕ) (values : List ℕ) → i < length v
     ≡ sets old 0 (valueBytes (take (i + 1) values))
 value-more old i values l =
     let e : 0 + length (valueBytes (take i values)) ≡ 2 * i = omega (arith, length-value-bytes (take i values), length-take-le i values (omega arith)) in
-    rw (add-one i, take-suc values i 0 l, value-bytes-append (take i values) (getD values i 0 ∷ []), one (getD values i 0), sets-append (valueBytes (take i values)) (lowFirst (getD values i 0)) old 0, e, add-one (2 * i)) refl
+    let v = getD values i 0 in
+    rw
+    (add-one i, take-suc values i 0 l, value-bytes-append (take i values) (v ∷ []), one v, sets-append (valueBytes (take i values)) (lowFirst v) old 0, e, add-one (2 * i))
+    refl
 
 -- three texts one after the other, each where the one before ends
 pub three : (old a b c : List ℕ) (i j : ℕ) → i ≡ length a → j ≡ i + length b → sets (sets (sets old 0 a) i b) j c ≡ sets old 0 (a ++ b ++ c)

@@ -9,14 +9,14 @@ use borrow.Author.Tests.{eqb-true, eqb-false, eq-eqb, ne-eqb}
 use Rattle.table.specs.Table.{pick}
 use Rattle.rules.specs.Claim.{both, allBelow}
 use Rattle.sheet.specs.Layout.{byte, uses}
-use Rattle.sheet.specs.Event.{sumBelow, unusedSum, pastList, pastField}
+use Rattle.sheet.specs.Event.{sumBelow, unusedSum, pastList, scxOnly}
 
 -- the event is of another kind
 abbrev pub Not : ℕ → List ℕ → Type 0
 Not kind e = byte e 0 ≡ kind → ⊥
 
 module _ (e : List ℕ) where
-  pub llx-sum : byte e 0 ≡ 1 → unusedSum e ≡ pastList 1 e + pastField e + (byte e 2 + byte e 9)
+  pub llx-sum : byte e 0 ≡ 1 → unusedSum e ≡ pastList 1 e + scxOnly e + (byte e 2 + byte e 9)
   unfolding unusedSum sumBelow uses
   llx-sum a = simp (eq-eqb _ _ a) (omega arith)
 
@@ -24,15 +24,15 @@ module _ (e : List ℕ) where
   unfolding unusedSum sumBelow uses
   scx-sum a b = simp (ne-eqb _ _ a, eq-eqb _ _ b) (omega arith)
 
-  pub vlx-sum : Not 1 e → Not 2 e → byte e 0 ≡ 3 → unusedSum e ≡ pastList (byte e 2) e + pastField e + byte e 9
+  pub vlx-sum : Not 1 e → Not 2 e → byte e 0 ≡ 3 → unusedSum e ≡ pastList (byte e 2) e + scxOnly e + byte e 9
   unfolding unusedSum sumBelow uses
   vlx-sum a b c = simp (ne-eqb _ _ a, ne-eqb _ _ b, eq-eqb _ _ c) (omega arith)
 
-  pub read-sum : Not 1 e → Not 2 e → Not 3 e → byte e 0 ≡ 4 → unusedSum e ≡ pastList 1 e + pastField e + byte e 2
+  pub read-sum : Not 1 e → Not 2 e → Not 3 e → byte e 0 ≡ 4 → unusedSum e ≡ pastList 1 e + scxOnly e + byte e 2
   unfolding unusedSum sumBelow uses
   read-sum a b c d = simp (ne-eqb _ _ a, ne-eqb _ _ b, ne-eqb _ _ c, eq-eqb _ _ d) (omega arith)
 
-  pub step-sum : Not 1 e → Not 2 e → Not 3 e → Not 4 e → unusedSum e ≡ pastList 0 e + pastField e + (byte e 2 + byte e 9)
+  pub step-sum : Not 1 e → Not 2 e → Not 3 e → Not 4 e → unusedSum e ≡ pastList 0 e + scxOnly e + (byte e 2 + byte e 9)
   unfolding unusedSum sumBelow uses
   step-sum a b c d = simp (ne-eqb _ _ a, ne-eqb _ _ b, ne-eqb _ _ c, ne-eqb _ _ d) (omega arith)
 

@@ -16,12 +16,12 @@ sumBelow (suc n) f = sumBelow n f + f n
 unfoldable pub unusedSum : List ℕ → ℕ
 unusedSum e = sumBelow eventSize (λ k. pick (uses (byte e 0) (byte e 2) k) 0 (byte e k))
 
--- the sum of what is past n of the list; the sum of the set R, the written place and the new value
+-- the sum of what is past n of the list; of what only an SCX uses, the set R, the written place and the new value
 abbrev pub pastList : ℕ → List ℕ → ℕ
 pastList n e = pick (ltb 0 n) 0 (byte e 3) + pick (ltb 1 n) 0 (byte e 4) + pick (ltb 2 n) 0 (byte e 5) + pick (ltb 3 n) 0 (byte e 6)
 
-abbrev pub pastField : List ℕ → ℕ
-pastField e = byte e 7 + byte e 8 + byte e 10 + byte e 11
+abbrev pub scxOnly : List ℕ → ℕ
+scxOnly e = byte e 7 + byte e 8 + byte e 10 + byte e 11
 
 -- the twelve bytes from j on
 abbrev pub twelveAt : List ℕ → ℕ → List ℕ

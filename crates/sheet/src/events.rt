@@ -5,7 +5,7 @@ ghost use lib.ListN.{getD, length};
 ghost use lib.Dec.{ltb};
 ghost use Rattle.table.specs.Table.{pick, tabulate};
 ghost use Rattle.sheet.specs.Layout.{byte, callOf, eventFine, eventsFine, eventBytes, eventAt};
-ghost use Rattle.sheet.specs.Event.{askScx, unlisted, twelveAt, pastList, pastField, unusedSum};
+ghost use Rattle.sheet.specs.Event.{askScx, unlisted, twelveAt, pastList, scxOnly, unusedSum};
 use crate::EVENT;
 use table::Ask;
 use table::Call;
@@ -134,10 +134,10 @@ fn past_list(n: u8, s: &[u8], j: usize) -> u16
     sum(a, b, c, d)
 }
 
-// The sum of the set R, the written place and the new value.
-fn past_field(s: &[u8], j: usize) -> u16
+// The sum of what only an SCX uses: the set R, the written place and the new value.
+fn scx_only(s: &[u8], j: usize) -> u16
     requires { ⌜ j + 12 ≤ length (now s) ⌝ }
-    ensures { λ o. ⌜ (o ≡ pastField (twelveAt (now (s .entry)) j)) × (o ≤ 1020) ⌝ }
+    ensures { λ o. ⌜ (o ≡ scxOnly (twelveAt (now (s .entry)) j)) × (o ≤ 1020) ⌝ }
 {
     sum(s[j + 7], s[j + 8], s[j + 10], s[j + 11])
 }
@@ -151,18 +151,18 @@ fn unused(s: &[u8], j: usize) -> u16
     let n = s[j + 2];
     let field = s[j + 9];
     if kind == 1 {
-        return past_list(1, s, j) + past_field(s, j) + sum(n, field, 0, 0);
+        return past_list(1, s, j) + scx_only(s, j) + sum(n, field, 0, 0);
     }
     if kind == 2 {
         return past_list(n, s, j);
     }
     if kind == 3 {
-        return past_list(n, s, j) + past_field(s, j) + sum(field, 0, 0, 0);
+        return past_list(n, s, j) + scx_only(s, j) + sum(field, 0, 0, 0);
     }
     if kind == 4 {
-        return past_list(1, s, j) + past_field(s, j) + sum(n, 0, 0, 0);
+        return past_list(1, s, j) + scx_only(s, j) + sum(n, 0, 0, 0);
     }
-    past_list(0, s, j) + past_field(s, j) + sum(n, field, 0, 0)
+    past_list(0, s, j) + scx_only(s, j) + sum(n, field, 0, 0)
 }
 
 // The kind is 1 to 5, and each unused byte is 0.

@@ -29,6 +29,7 @@ fn up_to(most: usize, k: usize) -> bool
     k <= most
 }
 
+// Where this fails, refusal 20 is given.
 pub(crate) fn size_fine(size: usize) -> bool
     ensures { λ o. ⌜ o ≡ test 0 (spec.sizeFine size) ⌝ }
 {
@@ -53,12 +54,14 @@ pub(crate) fn trailer(s: &[u8]) -> Trailer
     ]
 }
 
+// Where this fails, refusal 21 is given.
 pub(crate) fn tag_fine(t: Trailer) -> bool
     ensures { λ o. ⌜ o ≡ test 0 (spec.tagFine t) ⌝ }
 {
     t[0] == FIRST_TAG && t[1] == SECOND_TAG
 }
 
+// Where this fails, refusal 22 is given.
 pub(crate) fn counts_fine(p: u8, n: u8, count: u16) -> bool
     ensures { λ o. ⌜ o ≡ test 0 (spec.countsFine p n count) ⌝ }
 {
@@ -73,7 +76,7 @@ pub(crate) fn parts_size(n: u8, count: u16) -> usize
     RECORD * (n as usize) + EVENT * (count as usize)
 }
 
-// The distance back from the trailer, which starts at `end`.
+// The distance back from the trailer, which starts at `end`. Where this fails, refusal 23 is given.
 pub(crate) fn distance_fine(distance: u16, n: u8, count: u16, end: usize) -> bool
     ensures { λ o. ⌜ o ≡ test 0 (spec.distanceFine distance n count end) ⌝ }
 {
@@ -81,6 +84,7 @@ pub(crate) fn distance_fine(distance: u16, n: u8, count: u16, end: usize) -> boo
     d == parts_size(n, count) && up_to(end, d)
 }
 
+// The distance that a trailer says.
 pub(crate) fn distance(t: Trailer) -> u16
     ensures { λ o. ⌜ o ≡ byte t 6 + 256 * byte t 7 ⌝ }
 {

@@ -1,5 +1,6 @@
--- `sheet::advanced` meets its contract: a walk of its MIR, by hand. A struct is made anew of the slice that the one passed holds, and of the number that `following` returns. All that the proof knows of `following` is that it meets its contract.
--- The struct is Copy: what it owns is had twice, one copy is kept whole for the exit, and the other, with the facts of the number in the place of next's, is what the result owns.
+-- `sheet::advanced` meets its contract: a walk of its MIR, by hand. A struct is made anew of the slice that the one passed holds,
+-- and of the number that `following` returns. All that the proof knows of `following` is that it meets its contract. The struct is Copy: what it
+-- owns is had twice, one copy is kept whole for the exit, and the other, with the facts of the number for those of next, is what the result owns.
 use mathlib.Core.Path.{_≡_, refl, ap, sym, subst}
 use Prim.Native.Nat.{ℕ, _<_, _^_, _+_, _%_}
 use mathlib.Core.List.{[], _∷_}
@@ -41,10 +42,10 @@ use denote.Exit.{yes}
 use Rattle.sheet.specs.declared.Reader.{Reader}
 use Rattle.sheet.proofs.Reader as T
 use Rattle.sheet.proofs.Reader.Laws as T′
-use Rattle.sheet.proofs.following as step
-use Rattle.sheet.proofs.following.Symbol as step-def
+use Rattle.sheet.proofs.following as following
+use Rattle.sheet.proofs.following.Symbol as following-def
 use Rattle.sheet.proofs.following.Symbol.{name as #sheet·following}
-use Rattle.sheet.proofs.following.Met as step-thm
+use Rattle.sheet.proofs.following.Met as following-thm
 use Rattle.sheet.proofs.advanced.Key.{name as #sheet·advanced}
 use Rattle.sheet.proofs.advanced as advanced
 use Rattle.sheet.proofs.advanced.Statement as stated
@@ -60,7 +61,7 @@ stayed = (stay-none B yes, tt)
 module _ {M : Type 1} (𝓤 : URA M) (H : Heap 𝓤) (A : Atoms 𝓤) (mem : Memory → SProp 𝓤) (run : Routine → Fun 𝓤) where
   -- the contract that the proof cites
   abbrev Following : Contract 𝓤
-  Following = tripleOf 𝓤 H A step.signature (step.spec 𝓤 H A mem run)
+  Following = tripleOf 𝓤 H A following.signature (following.spec 𝓤 H A mem run)
 
 module _ {M : Type 1} (𝓤 : URA M) (H : Heap 𝓤) (A : Atoms 𝓤) (W : Given 𝓤 H A) (mem : Memory → SProp 𝓤) (run : Routine → Fun 𝓤) (κ : Lft) (q : Share) (d : Reader) where
   abbrev mach : Val
@@ -92,15 +93,15 @@ module _ {M : Type 1} (𝓤 : URA M) (H : Heap 𝓤) (A : Atoms 𝓤) (W : Given
   goes-to : d .next < 2 ^ 16 → ent 𝓤 (emp 𝓤) (Following 𝓤 H A mem run .pre to)
   goes-to fits = qed W [] ∵ owned ! u16 (Is u16) (uint-makes 𝓤 H A W w16) (d .next) _ (refl, fits) $ nothing ! $ move ! (1 ∷ 0 ∷ []) $ join ! $ nothing ! $ join ! $ frame ! $ done !
 
-  said : (n : ℕ) → ent 𝓤 (ensured 𝓤 H A step.ended (step.clauses 𝓤 H A mem run) tt (d .next, tt) tt n) (fact 𝓤 (n ≡ (d .next + 1) % 65536))
-  said n = exE 𝓤 _ (λ ws. snd∗ 𝓤 (sem 𝓤 H A (lasts step.ended tt (d .next, tt) ws)) (fact 𝓤 (n ≡ (d .next + 1) % 65536)))
+  said : (n : ℕ) → ent 𝓤 (ensured 𝓤 H A following.ended (following.clauses 𝓤 H A mem run) tt (d .next, tt) tt n) (fact 𝓤 (n ≡ (d .next + 1) % 65536))
+  said n = exE 𝓤 _ (λ ws. snd∗ 𝓤 (sem 𝓤 H A (lasts following.ended tt (d .next, tt) ws)) (fact 𝓤 (n ≡ (d .next + 1) % 65536)))
 
   exits : (n : ℕ) → n < 2 ^ 16 → n ≡ (d .next + 1) % 65536 → ent 𝓤 (onEntry 𝓤 H A advanced.signature (κ, tt) (q, tt) (d, tt) at) (Post (T′.lowered (made n)))
   exits n ok e =
       qed W ((‵ (flft κ q) ⊛ ‵ ftrue) ∷ ‵ (owns (B (κ, tt) ∷ []) (d, tt) at) ∷ []) ∵
       suffices ! _ (ends-at 𝓤 H A advanced.ended stayed (advanced.clauses 𝓤 H A mem run) W (((κ, tt), (q, tt), tt, (d, tt), at), tt) (T′.lowered (made n)) (made n) (tt, tt) (tt, tt)) $ says ! (refl, e) $
       frame ! $ fsplit ! $ use1 W (‵ Own ⊛ ‵ Own) (LL.copy (T.the-type (namedLft 1 0 tt (κ, tt))) (T′.the-copy (namedLft 1 0 tt (κ, tt))) 𝓤 H A W .twice d (mach ∷ [])) $ split ! $ move ! (0 ∷ 2 ∷ []) $ fjoin ! $ frame ! $
-      -- [what the struct owns]: the number's facts take the place of next's
+      -- [what the struct owns]: the number's facts stand for next's
       owned ! u16 (Is u16) (uint-makes 𝓤 H A W w16) n _ (refl, ok) $ move ! (1 ∷ 0 ∷ []) $ by ! (own-put 𝓤 H A W (T.the-type (namedLft 1 0 tt (κ, tt))) (T′.the-laws (namedLft 1 0 tt (κ, tt))) 1 (d .events, (d .next, tt)) n mach)
 
   exits-as : (n : ℕ) (u : Val) → Is u16 n (u ∷ []) → n ≡ (d .next + 1) % 65536 → ent 𝓤 (onEntry 𝓤 H A advanced.signature (κ, tt) (q, tt) (d, tt) at) (Post (value u))
@@ -115,7 +116,7 @@ module _ {M : Type 1} (𝓤 : URA M) (H : Heap 𝓤) (A : Atoms 𝓤) (W : Given
         assigns ! (of-opd ! (load ! (from ! (fld ! refl (stop !))) (look-in ! 6 (sub ! 1 refl (whole !))))) (from ! (stop !)) (init ! 0 refl (tt, wt .1 .1 .0)) $
         use0 W (raw (Following 𝓤 H A mem run .pre to)) (goes-to (wt .1 .1 .0 .fits)) $
         calls-at ! fm (Following 𝓤 H A mem run) known to (and-then ! (load ! (from ! (stop !)) (look ! 1 refl)) (no-more !)) (λ u.
-        use1 W (later (some (λ (n : ℕ). (‵ ftrue ⊛ ‵ (u16 .own n (u ∷ []))) ⊛ raw (ensured 𝓤 H A step.ended (step.clauses 𝓤 H A mem run) tt (d .next, tt) tt n)))) (id⊢ 𝓤 _) $ await ! tt $ pick ! (λ n.
+        use1 W (later (some (λ (n : ℕ). (‵ ftrue ⊛ ‵ (u16 .own n (u ∷ []))) ⊛ raw (ensured 𝓤 H A following.ended (following.clauses 𝓤 H A mem run) tt (d .next, tt) tt n)))) (id⊢ 𝓤 _) $ await ! tt $ pick ! (λ n.
         split ! $ move ! (1 ∷ []) $ use1 W (raw (fact 𝓤 (n ≡ (d .next + 1) % 65536))) (said n) $ heard ! (n ≡ (d .next + 1) % 65536) (λ e. split ! $ drop ! $
         -- [the result; _4; …; _3; …; _2; …; _1; …; room for _0; …; what came in]
         peeks ! u16 (Is u16) (shows 𝓤 H A u16) n (u ∷ []) (λ is.
@@ -142,4 +143,4 @@ advanced-spec 𝓤 H 𝓜 𝓖 𝓡 =
     entered 𝓤 H (tripleOf 𝓤 H (𝓖 .A) advanced.signature (advanced.spec 𝓤 H (𝓖 .A) (𝓜 .mem) (𝓡 .run)))
     (tables 𝓤 H 𝓜 𝓡 code.env .C) (tables 𝓤 H 𝓜 𝓡 code.env .Λ) #sheet·advanced code.function (code.unfolded 𝓤 H 𝓜 𝓡)
     (advanced-meets 𝓤 H (𝓖 .A) (givenOf 𝓤 H 𝓜 𝓖) (𝓜 .mem) (𝓡 .run) (tablesOf 𝓤 H 𝓜 (tables 𝓤 H 𝓜 𝓡 code.env))
-    (cited 𝓤 H (Following 𝓤 H (𝓖 .A) (𝓜 .mem) (𝓡 .run)) 𝓜 𝓡 code.env #sheet·following step-def.routine code.calls-sheet·following (step-thm.met 𝓤 H 𝓜 𝓖 𝓡)))
+    (cited 𝓤 H (Following 𝓤 H (𝓖 .A) (𝓜 .mem) (𝓡 .run)) 𝓜 𝓡 code.env #sheet·following following-def.routine code.calls-sheet·following (following-thm.met 𝓤 H 𝓜 𝓖 𝓡)))

@@ -1,5 +1,7 @@
--- `sheet::event` meets its contract: a walk of its MIR, by hand. A `Reader` that one call returns is held in a local and passed to the next. All that the proof knows of `at` and of `next_event` is that each meets its contract.
--- The machine value that `at` returns is stored and passed on as it is. In a local of a body MIR erases the lifetime of the struct's type, so the value is shown to have the type at `erased`: what the struct owns does not say the lifetime's name.
+-- `sheet::event` meets its contract: a walk of its MIR, by hand. A `Reader` that one call returns is held in a local and passed to the
+-- next. All that the proof knows of `at` and of `next_event` is that each meets its contract. The machine value that `at` returns is stored and
+-- passed on as it is. In a local of a body MIR erases the lifetime of the struct's type, so the value is shown to have the type at `erased`: what
+-- the struct owns does not say the lifetime's name.
 use mathlib.Core.Path.{_≡_, refl, ap, _∙_}
 use Prim.Native.Nat.{ℕ, _<_, _^_}
 use mathlib.Core.List.{List, [], _∷_}
@@ -43,16 +45,16 @@ use Rattle.sheet.proofs.Reader as T
 use Rattle.sheet.proofs.Reader.Laws as T′
 use Rattle.table.proofs.Call as S
 use Rattle.table.proofs.Call.Laws as S′
-use Rattle.sheet.proofs.at as new
-use Rattle.sheet.proofs.at.Symbol as new-def
+use Rattle.sheet.proofs.at as at′
+use Rattle.sheet.proofs.at.Symbol as at-def
 use Rattle.sheet.proofs.at.Symbol.{name as #sheet·at}
-use Rattle.sheet.proofs.at.Met as new-thm
+use Rattle.sheet.proofs.at.Met as at-thm
 use Rattle.sheet.proofs.next_event as next
 use Rattle.sheet.proofs.next_event.Symbol as next-def
 use Rattle.sheet.proofs.next_event.Symbol.{name as #sheet·next-event}
 use Rattle.sheet.proofs.next_event.Met as next-thm
 use Rattle.sheet.proofs.event.Key.{name as #sheet·event}
-use Rattle.sheet.proofs.event as read
+use Rattle.sheet.proofs.event as event′
 use Rattle.sheet.proofs.event.Statement as stated
 use Rattle.sheet.proofs.event.Code as code
 
@@ -60,13 +62,13 @@ use Rattle.sheet.proofs.event.Code as code
 abbrev B : Lfts 1 → RattleType
 B κs = T.the-row (namedLft 1 0 tt κs)
 
-abbrev stayed : Stays (read.ended .signature .params) (read.ended .kept)
+abbrev stayed : Stays (event′.ended .signature .params) (event′.ended .kept)
 stayed = (stay-none-slice (0 ∷ []) tt (plain (λ _. u8)) yes, (stay-none (λ _. u16) yes, tt))
 
 module _ {M : Type 1} (𝓤 : URA M) (H : Heap 𝓤) (A : Atoms 𝓤) (mem : Memory → SProp 𝓤) (run : Routine → Fun 𝓤) where
   -- the contracts that the proof cites
-  abbrev New : Contract 𝓤
-  New = tripleOf 𝓤 H A new.signature (new.spec 𝓤 H A mem run)
+  abbrev At : Contract 𝓤
+  At = tripleOf 𝓤 H A at′.signature (at′.spec 𝓤 H A mem run)
 
   abbrev Next : Contract 𝓤
   Next = tripleOf 𝓤 H A next.signature (next.spec 𝓤 H A mem run)
@@ -84,23 +86,23 @@ module _ {M : Type 1} (𝓤 : URA M) (H : Heap 𝓤) (A : Atoms 𝓤) (W : Given
   αᵉ = record { mir = erased; lft = κ }
 
   abbrev Post : Val → SProp 𝓤
-  Post = walkOf 𝓤 H A read.ended stayed (read.clauses 𝓤 H A mem run) .post (((κ, tt), (q, tt), tt, (s, (i, tt)), (v ∷ [], (vint w16 i ∷ [], tt))), tt)
+  Post = walkOf 𝓤 H A event′.ended stayed (event′.clauses 𝓤 H A mem run) .post (((κ, tt), (q, tt), tt, (s, (i, tt)), (v ∷ [], (vint w16 i ∷ [], tt))), tt)
 
   abbrev Own : Fml
   Own = ShrSlice (named 0) κ u8 .own s (v ∷ [])
 
   -- the call of `at`: what it is passed, what it asks, and what is known of its result
-  abbrev to-new : New 𝓤 H A mem run .Ghost
-  to-new = (((κ, tt), (q, tt), tt, (s, (i, tt)), (v ∷ [], (vint w16 i ∷ [], tt))), tt)
+  abbrev to-at : At 𝓤 H A mem run .Ghost
+  to-at = (((κ, tt), (q, tt), tt, (s, (i, tt)), (v ∷ [], (vint w16 i ∷ [], tt))), tt)
 
-  goes-new : ent 𝓤 (onEntry 𝓤 H A read.signature (κ, tt) (q, tt) (s, (i, tt)) (v ∷ [], (vint w16 i ∷ [], tt))) (sep 𝓤 (New 𝓤 H A mem run .pre to-new) (sem 𝓤 H A Own))
-  goes-new =
+  goes-at : ent 𝓤 (onEntry 𝓤 H A event′.signature (κ, tt) (q, tt) (s, (i, tt)) (v ∷ [], (vint w16 i ∷ [], tt))) (sep 𝓤 (At 𝓤 H A mem run .pre to-at) (sem 𝓤 H A Own))
+  goes-at =
       qed W ((‵ (flft κ q) ⊛ ‵ ftrue) ∷ ‵ (owns (ShrSlice (named 0) κ u8 ∷ u16 ∷ []) (s, (i, tt)) (v ∷ [], (vint w16 i ∷ [], tt))) ∷ []) ∵
       move ! (1 ∷ []) $ fsplit ! $ use1 W (‵ Own ⊛ ‵ Own) (shr-slice-copy 𝓤 H A W (named 0) κ u8 .twice s (v ∷ [])) $ split ! $
-      move ! (0 ∷ 2 ∷ []) $ fjoin ! $ move ! (2 ∷ 0 ∷ []) $ use2 W (raw (New 𝓤 H A mem run .pre to-new)) (qed W ((‵ (flft κ q) ⊛ ‵ ftrue) ∷ ‵ (owns (ShrSlice (named 0) κ u8 ∷ u16 ∷ []) (s, (i, tt)) (v ∷ [], (vint w16 i ∷ [], tt))) ∷ []) ∵ join ! $ frame ! $ done !) $ frame ! $ done !
+      move ! (0 ∷ 2 ∷ []) $ fjoin ! $ move ! (2 ∷ 0 ∷ []) $ use2 W (raw (At 𝓤 H A mem run .pre to-at)) (qed W ((‵ (flft κ q) ⊛ ‵ ftrue) ∷ ‵ (owns (ShrSlice (named 0) κ u8 ∷ u16 ∷ []) (s, (i, tt)) (v ∷ [], (vint w16 i ∷ [], tt))) ∷ []) ∵ join ! $ frame ! $ done !) $ frame ! $ done !
 
-  new-said : (r : Reader) → ent 𝓤 (ensured 𝓤 H A new.ended (new.clauses 𝓤 H A mem run) (κ, tt) (s, (i, tt)) tt r) (fact 𝓤 ((r .events ≡ s) × (r .next ≡ i)))
-  new-said r = exE 𝓤 _ (λ ws. snd∗ 𝓤 (sem 𝓤 H A (lasts new.ended (κ, tt) (s, (i, tt)) ws)) (fact 𝓤 ((r .events ≡ s) × (r .next ≡ i))))
+  at-said : (r : Reader) → ent 𝓤 (ensured 𝓤 H A at′.ended (at′.clauses 𝓤 H A mem run) (κ, tt) (s, (i, tt)) tt r) (fact 𝓤 ((r .events ≡ s) × (r .next ≡ i)))
+  at-said r = exE 𝓤 _ (λ ws. snd∗ 𝓤 (sem 𝓤 H A (lasts at′.ended (κ, tt) (s, (i, tt)) ws)) (fact 𝓤 ((r .events ≡ s) × (r .next ≡ i))))
 
   -- the call of `next_event`, at the struct r with the machine value u
   abbrev to-next : Reader → Val → Next 𝓤 H A mem run .Ghost
@@ -115,18 +117,18 @@ module _ {M : Type 1} (𝓤 : URA M) (H : Heap 𝓤) (A : Atoms 𝓤) (W : Given
   exits : (t : Call) (u : Val) → t ≡ found → ent 𝓤 (⋆ 𝓤 H A (‵ (S.the-row .own t (u ∷ [])) ∷ (‵ (flft κ q) ⊛ ‵ ftrue) ∷ ‵ Own ∷ [])) (Post u)
   exits t u e =
       qed W (‵ (S.the-row .own t (u ∷ [])) ∷ (‵ (flft κ q) ⊛ ‵ ftrue) ∷ ‵ Own ∷ []) ∵
-      suffices ! _ (ends-at 𝓤 H A read.ended stayed (read.clauses 𝓤 H A mem run) W (((κ, tt), (q, tt), tt, (s, (i, tt)), (v ∷ [], (vint w16 i ∷ [], tt))), tt) u t (tt, (tt, tt)) (tt, (tt, tt))) $ says ! e $
+      suffices ! _ (ends-at 𝓤 H A event′.ended stayed (event′.clauses 𝓤 H A mem run) W (((κ, tt), (q, tt), tt, (s, (i, tt)), (v ∷ [], (vint w16 i ∷ [], tt))), tt) u t (tt, (tt, tt)) (tt, (tt, tt))) $ says ! e $
       move ! (1 ∷ []) $ frame ! $ nothing ! $ owned ! u16 (Is u16) (uint-makes 𝓤 H A W w16) i _ (refl, fits) $ fjoin ! $ move ! (2 ∷ 0 ∷ []) $ fjoin ! $ frame ! $ done !
 
-  module _ (C : Calls 𝓤 H) (Λ : Loops 𝓤 H) (fm : FmC 𝓤 H (W .laws) C) (known-new : Triple 𝓤 (C #sheet·at) (New 𝓤 H A mem run)) (known-next : Triple 𝓤 (C #sheet·next-event) (Next 𝓤 H A mem run)) where
-    walk : Is (ShrSlice (named 0) κ u8) s (v ∷ []) → ent 𝓤 (onEntry 𝓤 H A read.signature (κ, tt) (q, tt) (s, (i, tt)) (v ∷ [], (vint w16 i ∷ [], tt))) (WpFn 𝓤 H C Λ code.function (v ∷ vint w16 i ∷ []) Post)
+  module _ (C : Calls 𝓤 H) (Λ : Loops 𝓤 H) (fm : FmC 𝓤 H (W .laws) C) (known-at : Triple 𝓤 (C #sheet·at) (At 𝓤 H A mem run)) (known-next : Triple 𝓤 (C #sheet·next-event) (Next 𝓤 H A mem run)) where
+    walk : Is (ShrSlice (named 0) κ u8) s (v ∷ []) → ent 𝓤 (onEntry 𝓤 H A event′.signature (κ, tt) (q, tt) (s, (i, tt)) (v ∷ [], (vint w16 i ∷ [], tt))) (WpFn 𝓤 H C Λ code.function (v ∷ vint w16 i ∷ []) Post)
     walk p =
-        qed W (raw (onEntry 𝓤 H A read.signature (κ, tt) (q, tt) (s, (i, tt)) (v ∷ [], (vint w16 i ∷ [], tt))) ∷ []) ∵ enter ! C Λ code.function (v ∷ vint w16 i ∷ []) _ $
+        qed W (raw (onEntry 𝓤 H A event′.signature (κ, tt) (q, tt) (s, (i, tt)) (v ∷ [], (vint w16 i ∷ [], tt))) ∷ []) ∵ enter ! C Λ code.function (v ∷ vint w16 i ∷ []) _ $
         alloc1 ! (λ l₀. alloc1 ! (λ l₁. alloc1 ! (λ l₂. alloc1 ! (λ l₃. alloc0 ! $ params1 ! $ pass1 ! (init ! 4 refl (shr-slice-lawful 𝓤 H A W (named 0) κ u8 .typed s (v ∷ []) p .0)) $ pass1 ! (init ! 2 refl (tt, record { fits = fits })) $ pass0 ! $
-        move ! (8 ∷ []) $ use1 W (raw (New 𝓤 H A mem run .pre to-new) ⊛ ‵ Own) goes-new $ split ! $
-        calls-at ! fm (New 𝓤 H A mem run) known-new to-new (and-then ! (load ! (from ! (stop !)) (look ! 6 refl)) (and-then ! (load ! (from ! (stop !)) (look ! 4 refl)) (no-more !))) (λ u.
-        use1 W (later (some (λ (r : Reader). ((‵ (flft κ q) ⊛ ‵ ftrue) ⊛ ‵ (B (κ, tt) .own r (u ∷ []))) ⊛ raw (ensured 𝓤 H A new.ended (new.clauses 𝓤 H A mem run) (κ, tt) (s, (i, tt)) tt r)))) (id⊢ 𝓤 _) $ await ! tt $ pick ! (λ r.
-        split ! $ move ! (1 ∷ []) $ use1 W (raw (fact 𝓤 ((r .events ≡ s) × (r .next ≡ i)))) (new-said r) $ heard ! ((r .events ≡ s) × (r .next ≡ i)) (λ e. split ! $ move ! (1 ∷ []) $
+        move ! (8 ∷ []) $ use1 W (raw (At 𝓤 H A mem run .pre to-at) ⊛ ‵ Own) goes-at $ split ! $
+        calls-at ! fm (At 𝓤 H A mem run) known-at to-at (and-then ! (load ! (from ! (stop !)) (look ! 6 refl)) (and-then ! (load ! (from ! (stop !)) (look ! 4 refl)) (no-more !))) (λ u.
+        use1 W (later (some (λ (r : Reader). ((‵ (flft κ q) ⊛ ‵ ftrue) ⊛ ‵ (B (κ, tt) .own r (u ∷ []))) ⊛ raw (ensured 𝓤 H A at′.ended (at′.clauses 𝓤 H A mem run) (κ, tt) (s, (i, tt)) tt r)))) (id⊢ 𝓤 _) $ await ! tt $ pick ! (λ r.
+        split ! $ move ! (1 ∷ []) $ use1 W (raw (fact 𝓤 ((r .events ≡ s) × (r .next ≡ i)))) (at-said r) $ heard ! ((r .events ≡ s) × (r .next ≡ i)) (λ e. split ! $ move ! (1 ∷ []) $
         -- [what the struct owns; the token; what s owns; room for _2; …; _1; …; room for _0; …]
         peeks ! (B (κ, tt)) (Is (B (κ, tt))) (shows 𝓤 H A (B (κ, tt))) r (u ∷ []) (λ is.
         land ! (from ! (stop !)) (init ! 3 refl (LL.lawful (T.the-type αᵉ) (T′.the-laws αᵉ) 𝓤 H A W .typed r _ is .0)) $
@@ -141,22 +143,22 @@ module _ {M : Type 1} (𝓤 : URA M) (H : Heap 𝓤) (A : Atoms 𝓤) (W : Given
         by ! (exits t u′ (e′ ∙ (ap (λ (x : RefT (List ℕ)). eventAt (now x) (r .next)) (e .0) ∙ ap (eventAt (now s)) (e .1))))))))))))))))
 
 module _ {M : Type 1} (𝓤 : URA M) (H : Heap 𝓤) (A : Atoms 𝓤) (W : Given 𝓤 H A) (mem : Memory → SProp 𝓤) (run : Routine → Fun 𝓤) where
-  read-walks : (C : Calls 𝓤 H) (Λ : Loops 𝓤 H) → FmC 𝓤 H (W .laws) C → Triple 𝓤 (C #sheet·at) (New 𝓤 H A mem run) → Triple 𝓤 (C #sheet·next-event) (Next 𝓤 H A mem run)
-      → Walks 𝓤 H A read.ended stayed (WpFn 𝓤 H C Λ code.function) (read.clauses 𝓤 H A mem run)
-  read-walks C Λ fm known-new known-next = walked 𝓤 H A read.ended stayed (read.clauses 𝓤 H A mem run) (WpFn 𝓤 H C Λ code.function) (λ κs. (slice-vals, (uint-vals w16, tt))) (λ κs. (shr-slice-tells (named 0) (κs .0) u8, (uint-tells w16, tt)))
-      (λ κs qs bounds a g are. via 𝓤 _ (fst∗ 𝓤 _ (emp 𝓤)) (walk 𝓤 H A W mem run (κs .0) (qs .0) (a .0) (a .1 .0) (are .1 .0 .1) C Λ fm known-new known-next (are .0)))
+  event-walks : (C : Calls 𝓤 H) (Λ : Loops 𝓤 H) → FmC 𝓤 H (W .laws) C → Triple 𝓤 (C #sheet·at) (At 𝓤 H A mem run) → Triple 𝓤 (C #sheet·next-event) (Next 𝓤 H A mem run)
+      → Walks 𝓤 H A event′.ended stayed (WpFn 𝓤 H C Λ code.function) (event′.clauses 𝓤 H A mem run)
+  event-walks C Λ fm known-at known-next = walked 𝓤 H A event′.ended stayed (event′.clauses 𝓤 H A mem run) (WpFn 𝓤 H C Λ code.function) (λ κs. (slice-vals, (uint-vals w16, tt))) (λ κs. (shr-slice-tells (named 0) (κs .0) u8, (uint-tells w16, tt)))
+      (λ κs qs bounds a g are. via 𝓤 _ (fst∗ 𝓤 _ (emp 𝓤)) (walk 𝓤 H A W mem run (κs .0) (qs .0) (a .0) (a .1 .0) (are .1 .0 .1) C Λ fm known-at known-next (are .0)))
 
-read-meets : {M : Type 1} (𝓤 : URA M) (H : Heap 𝓤) (A : Atoms 𝓤) (W : Given 𝓤 H A) (mem : Memory → SProp 𝓤) (run : Routine → Fun 𝓤) (𝓣 : Tables 𝓤 H)
-    → Triple 𝓤 (𝓣 .C #sheet·at) (New 𝓤 H A mem run) → Triple 𝓤 (𝓣 .C #sheet·next-event) (Next 𝓤 H A mem run)
-    → Meets 𝓤 H A read.signature (WpFn 𝓤 H (𝓣 .C) (𝓣 .Λ) code.function) (read.spec 𝓤 H A mem run)
-read-meets 𝓤 H A W mem run 𝓣 known-new known-next = walk-meets 𝓤 H A read.ended stayed W (goes-none-slice 𝓤 H A W 1 (0 ∷ []) tt (plain (λ _. u8)) yes, (goes-none 𝓤 H A W 1 (λ _. u16) yes (λ κs x f. refl), tt)) (read.clauses 𝓤 H A mem run) (WpFn 𝓤 H (𝓣 .C) (𝓣 .Λ) code.function) (WpFn-mono 𝓤 H (W .laws) 𝓣 code.function)
-    (read-walks 𝓤 H A W mem run (𝓣 .C) (𝓣 .Λ) (fmOf 𝓤 H (W .laws) 𝓣) known-new known-next)
+event-meets : {M : Type 1} (𝓤 : URA M) (H : Heap 𝓤) (A : Atoms 𝓤) (W : Given 𝓤 H A) (mem : Memory → SProp 𝓤) (run : Routine → Fun 𝓤) (𝓣 : Tables 𝓤 H)
+    → Triple 𝓤 (𝓣 .C #sheet·at) (At 𝓤 H A mem run) → Triple 𝓤 (𝓣 .C #sheet·next-event) (Next 𝓤 H A mem run)
+    → Meets 𝓤 H A event′.signature (WpFn 𝓤 H (𝓣 .C) (𝓣 .Λ) code.function) (event′.spec 𝓤 H A mem run)
+event-meets 𝓤 H A W mem run 𝓣 known-at known-next = walk-meets 𝓤 H A event′.ended stayed W (goes-none-slice 𝓤 H A W 1 (0 ∷ []) tt (plain (λ _. u8)) yes, (goes-none 𝓤 H A W 1 (λ _. u16) yes (λ κs x f. refl), tt)) (event′.clauses 𝓤 H A mem run) (WpFn 𝓤 H (𝓣 .C) (𝓣 .Λ) code.function) (WpFn-mono 𝓤 H (W .laws) 𝓣 code.function)
+    (event-walks 𝓤 H A W mem run (𝓣 .C) (𝓣 .Λ) (fmOf 𝓤 H (W .laws) 𝓣) known-at known-next)
 
 pub event-spec : {M : Type 1} → stated.statement M
 unfolding code.routine tablesOf
 event-spec 𝓤 H 𝓜 𝓖 𝓡 =
-    entered 𝓤 H (tripleOf 𝓤 H (𝓖 .A) read.signature (read.spec 𝓤 H (𝓖 .A) (𝓜 .mem) (𝓡 .run)))
+    entered 𝓤 H (tripleOf 𝓤 H (𝓖 .A) event′.signature (event′.spec 𝓤 H (𝓖 .A) (𝓜 .mem) (𝓡 .run)))
     (tables 𝓤 H 𝓜 𝓡 code.env .C) (tables 𝓤 H 𝓜 𝓡 code.env .Λ) #sheet·event code.function (code.unfolded 𝓤 H 𝓜 𝓡)
-    (read-meets 𝓤 H (𝓖 .A) (givenOf 𝓤 H 𝓜 𝓖) (𝓜 .mem) (𝓡 .run) (tablesOf 𝓤 H 𝓜 (tables 𝓤 H 𝓜 𝓡 code.env))
-    (cited 𝓤 H (New 𝓤 H (𝓖 .A) (𝓜 .mem) (𝓡 .run)) 𝓜 𝓡 code.env #sheet·at new-def.routine code.calls-sheet·at (new-thm.met 𝓤 H 𝓜 𝓖 𝓡))
+    (event-meets 𝓤 H (𝓖 .A) (givenOf 𝓤 H 𝓜 𝓖) (𝓜 .mem) (𝓡 .run) (tablesOf 𝓤 H 𝓜 (tables 𝓤 H 𝓜 𝓡 code.env))
+    (cited 𝓤 H (At 𝓤 H (𝓖 .A) (𝓜 .mem) (𝓡 .run)) 𝓜 𝓡 code.env #sheet·at at-def.routine code.calls-sheet·at (at-thm.met 𝓤 H 𝓜 𝓖 𝓡))
     (cited 𝓤 H (Next 𝓤 H (𝓖 .A) (𝓜 .mem) (𝓡 .run)) 𝓜 𝓡 code.env #sheet·next-event next-def.routine code.calls-sheet·next-event (next-thm.met 𝓤 H 𝓜 𝓖 𝓡)))

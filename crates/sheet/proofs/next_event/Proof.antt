@@ -1,5 +1,6 @@
--- `sheet::next_event` meets its contract: a walk of its MIR, by hand. The struct is taken apart, and `event_at` is called on the slice and the number. All that the proof knows of `event_at` is that it meets its contract.
--- The struct is Copy: what it owns is had twice, one copy is kept whole for the exit, and of the other what events owns goes to the callee, beside the lifetime's token, which comes back.
+-- `sheet::next_event` meets its contract: a walk of its MIR, by hand. The struct is taken apart, and `event_at` is called on the slice and
+-- the number. All that the proof knows of `event_at` is that it meets its contract. The struct is Copy: what it owns is had twice, one copy is kept
+-- whole for the exit, and of the other what events owns goes to the callee, beside the lifetime's token, which comes back.
 use mathlib.Core.Path.{_≡_, refl}
 use Prim.Native.Nat.{_<_, _^_}
 use mathlib.Core.List.{[], _∷_}
@@ -48,10 +49,10 @@ use Rattle.sheet.proofs.Reader as T
 use Rattle.sheet.proofs.Reader.Laws as T′
 use Rattle.table.proofs.Call as S
 use Rattle.table.proofs.Call.Laws as S′
-use Rattle.sheet.proofs.events.event_at as step
-use Rattle.sheet.proofs.events.event_at.Symbol as step-def
+use Rattle.sheet.proofs.events.event_at as event-at
+use Rattle.sheet.proofs.events.event_at.Symbol as event-at-def
 use Rattle.sheet.proofs.events.event_at.Symbol.{name as #sheet·events·event-at}
-use Rattle.sheet.proofs.events.event_at.Met as step-thm
+use Rattle.sheet.proofs.events.event_at.Met as event-at-thm
 use Rattle.sheet.proofs.next_event.Key.{name as #sheet·next-event}
 use Rattle.sheet.proofs.next_event as nx
 use Rattle.sheet.proofs.next_event.Statement as stated
@@ -67,7 +68,7 @@ stayed = (stay-none B yes, tt)
 module _ {M : Type 1} (𝓤 : URA M) (H : Heap 𝓤) (A : Atoms 𝓤) (mem : Memory → SProp 𝓤) (run : Routine → Fun 𝓤) where
   -- the contract that the proof cites
   abbrev EventAt : Contract 𝓤
-  EventAt = tripleOf 𝓤 H A step.signature (step.spec 𝓤 H A mem run)
+  EventAt = tripleOf 𝓤 H A event-at.signature (event-at.spec 𝓤 H A mem run)
 
 module _ {M : Type 1} (𝓤 : URA M) (H : Heap 𝓤) (A : Atoms 𝓤) (W : Given 𝓤 H A) (mem : Memory → SProp 𝓤) (run : Routine → Fun 𝓤) (κ : Lft) (q : Share) (d : Reader) where
   abbrev mach : Val
@@ -97,13 +98,13 @@ module _ {M : Type 1} (𝓤 : URA M) (H : Heap 𝓤) (A : Atoms 𝓤) (W : Given
   vd = (d .events, (d .next, tt))
 
   -- what the callee is passed
-  abbrev passed : Vals step.signature (κ, tt)
+  abbrev passed : Vals event-at.signature (κ, tt)
   passed = (v ∷ [], (vint w16 (d .next) ∷ [], tt))
 
   abbrev to : EventAt 𝓤 H A mem run .Ghost
   to = (((κ, tt), (q, tt), tt, (d .events, (d .next, tt)), passed), tt)
 
-  asked : ent 𝓤 (onEntry 𝓤 H A step.signature (κ, tt) (q, tt) (d .events, (d .next, tt)) passed) (EventAt 𝓤 H A mem run .pre to)
+  asked : ent 𝓤 (onEntry 𝓤 H A event-at.signature (κ, tt) (q, tt) (d .events, (d .next, tt)) passed) (EventAt 𝓤 H A mem run .pre to)
   asked = qed W ((‵ (flft κ q) ⊛ ‵ ftrue) ∷ ‵ (owns (ShrSlice (named 0) κ u8 ∷ u16 ∷ []) (d .events, (d .next, tt)) passed) ∷ []) ∵ join ! $ frame ! $ done !
 
   -- what the struct owns gives what the callee asks, and is kept
@@ -117,8 +118,8 @@ module _ {M : Type 1} (𝓤 : URA M) (H : Heap 𝓤) (A : Atoms 𝓤) (W : Given
       move ! (2 ∷ 0 ∷ []) $ use2 W (raw (EventAt 𝓤 H A mem run .pre to)) asked $ frame ! $ done !)
 
   -- of the callee's `ensured`, the clause alone: it has no `&mut`, so what is said of last values is dropped
-  said : (r : Call) → ent 𝓤 (ensured 𝓤 H A step.ended (step.clauses 𝓤 H A mem run) (κ, tt) (d .events, (d .next, tt)) tt r) (fact 𝓤 (r ≡ found))
-  said r = exE 𝓤 _ (λ ws. snd∗ 𝓤 (sem 𝓤 H A (lasts step.ended (κ, tt) (d .events, (d .next, tt)) ws)) (fact 𝓤 (r ≡ found)))
+  said : (r : Call) → ent 𝓤 (ensured 𝓤 H A event-at.ended (event-at.clauses 𝓤 H A mem run) (κ, tt) (d .events, (d .next, tt)) tt r) (fact 𝓤 (r ≡ found))
+  said r = exE 𝓤 _ (λ ws. snd∗ 𝓤 (sem 𝓤 H A (lasts event-at.ended (κ, tt) (d .events, (d .next, tt)) ws)) (fact 𝓤 (r ≡ found)))
 
   exits : (r : Call) (u : Val) → r ≡ found → ent 𝓤 (⋆ 𝓤 H A (‵ (S.the-row .own r (u ∷ [])) ∷ (‵ (flft κ q) ⊛ ‵ ftrue) ∷ ‵ Own ∷ [])) (Post u)
   exits r u e =
@@ -135,7 +136,7 @@ module _ {M : Type 1} (𝓤 : URA M) (H : Heap 𝓤) (A : Atoms 𝓤) (W : Given
         assigns ! (of-opd ! (load ! (from ! (fld ! refl (stop !))) (look-in ! 4 (sub ! 1 refl (whole !))))) (from ! (stop !)) (init ! 0 refl (tt, wt .1 .1 .0)) $
         move ! (8 ∷ []) $ use1 W (raw (EventAt 𝓤 H A mem run .pre to) ⊛ ‵ Own) (apart (wt .1 .1 .0 .fits)) $ split ! $
         calls-at ! fm (EventAt 𝓤 H A mem run) known to (and-then ! (load ! (from ! (stop !)) (look ! 4 refl)) (and-then ! (load ! (from ! (stop !)) (look ! 2 refl)) (no-more !))) (λ u.
-        use1 W (later (some (λ (r : Call). ((‵ (flft κ q) ⊛ ‵ ftrue) ⊛ ‵ (S.the-row .own r (u ∷ []))) ⊛ raw (ensured 𝓤 H A step.ended (step.clauses 𝓤 H A mem run) (κ, tt) (d .events, (d .next, tt)) tt r)))) (id⊢ 𝓤 _) $ await ! tt $ pick ! (λ r.
+        use1 W (later (some (λ (r : Call). ((‵ (flft κ q) ⊛ ‵ ftrue) ⊛ ‵ (S.the-row .own r (u ∷ []))) ⊛ raw (ensured 𝓤 H A event-at.ended (event-at.clauses 𝓤 H A mem run) (κ, tt) (d .events, (d .next, tt)) tt r)))) (id⊢ 𝓤 _) $ await ! tt $ pick ! (λ r.
         split ! $ move ! (1 ∷ []) $ use1 W (raw (fact 𝓤 (r ≡ found))) (said r) $ heard ! (r ≡ found) (λ e. split ! $ move ! (1 ∷ []) $
         -- [the result; the token; what the struct owns; _3; …; _2; …; _1; …; room for _0; …]
         peeks ! S.the-row (Is S.the-row) (shows 𝓤 H A S.the-row) r (u ∷ []) (λ is.
@@ -152,8 +153,8 @@ module _ {M : Type 1} (𝓤 : URA M) (H : Heap 𝓤) (A : Atoms 𝓤) (W : Given
 next-meets : {M : Type 1} (𝓤 : URA M) (H : Heap 𝓤) (A : Atoms 𝓤) (W : Given 𝓤 H A) (mem : Memory → SProp 𝓤) (run : Routine → Fun 𝓤) (𝓣 : Tables 𝓤 H)
     → Triple 𝓤 (𝓣 .C #sheet·events·event-at) (EventAt 𝓤 H A mem run)
     → Meets 𝓤 H A nx.signature (WpFn 𝓤 H (𝓣 .C) (𝓣 .Λ) code.function) (nx.spec 𝓤 H A mem run)
-next-meets 𝓤 H A W mem run 𝓣 known-step = walk-meets 𝓤 H A nx.ended stayed W (goes-none 𝓤 H A W 1 B yes (λ κs x f. refl), tt) (nx.clauses 𝓤 H A mem run) (WpFn 𝓤 H (𝓣 .C) (𝓣 .Λ) code.function) (WpFn-mono 𝓤 H (W .laws) 𝓣 code.function)
-    (next-walks 𝓤 H A W mem run (𝓣 .C) (𝓣 .Λ) (fmOf 𝓤 H (W .laws) 𝓣) known-step)
+next-meets 𝓤 H A W mem run 𝓣 known = walk-meets 𝓤 H A nx.ended stayed W (goes-none 𝓤 H A W 1 B yes (λ κs x f. refl), tt) (nx.clauses 𝓤 H A mem run) (WpFn 𝓤 H (𝓣 .C) (𝓣 .Λ) code.function) (WpFn-mono 𝓤 H (W .laws) 𝓣 code.function)
+    (next-walks 𝓤 H A W mem run (𝓣 .C) (𝓣 .Λ) (fmOf 𝓤 H (W .laws) 𝓣) known)
 
 pub next-event-spec : {M : Type 1} → stated.statement M
 unfolding code.routine tablesOf
@@ -161,4 +162,4 @@ next-event-spec 𝓤 H 𝓜 𝓖 𝓡 =
     entered 𝓤 H (tripleOf 𝓤 H (𝓖 .A) nx.signature (nx.spec 𝓤 H (𝓖 .A) (𝓜 .mem) (𝓡 .run)))
     (tables 𝓤 H 𝓜 𝓡 code.env .C) (tables 𝓤 H 𝓜 𝓡 code.env .Λ) #sheet·next-event code.function (code.unfolded 𝓤 H 𝓜 𝓡)
     (next-meets 𝓤 H (𝓖 .A) (givenOf 𝓤 H 𝓜 𝓖) (𝓜 .mem) (𝓡 .run) (tablesOf 𝓤 H 𝓜 (tables 𝓤 H 𝓜 𝓡 code.env))
-    (cited 𝓤 H (EventAt 𝓤 H (𝓖 .A) (𝓜 .mem) (𝓡 .run)) 𝓜 𝓡 code.env #sheet·events·event-at step-def.routine code.calls-sheet·events·event-at (step-thm.met 𝓤 H 𝓜 𝓖 𝓡)))
+    (cited 𝓤 H (EventAt 𝓤 H (𝓖 .A) (𝓜 .mem) (𝓡 .run)) 𝓜 𝓡 code.env #sheet·events·event-at event-at-def.routine code.calls-sheet·events·event-at (event-at-thm.met 𝓤 H 𝓜 𝓖 𝓡)))

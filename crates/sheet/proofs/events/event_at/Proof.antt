@@ -31,7 +31,9 @@ call-at-requires-2 c κs = search needs
 
 returns-2 : tie.Need-returns-2
 unfolding eventAt
-returns-2 c = let a = c .before .before .before .before .before .args in c .call-at2 .ensures ∙ call-copied (a .events .now) (12 * a .i) (c .before .before .short-event .ensures)
+returns-2 c =
+    let a = c .before .before .before .before .before .args in
+    c .call-at2 .ensures ∙ call-copied (a .events .now) (12 * a .i) (c .before .before .short-event .ensures)
 
 pub event-at-spec : {M : Type 1} → statement M
 event-at-spec =

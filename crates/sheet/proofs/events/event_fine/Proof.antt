@@ -28,7 +28,9 @@ fine-at-requires-2 : tie.Need-fine-at-requires-2
 fine-at-requires-2 c κs = search needs
 
 returns-2 : tie.Need-returns-2
-returns-2 c = let a = c .before .before .before .before .before .args in c .fine-at2 .ensures ∙ fine-copied (a .events .now) (12 * a .i) (c .before .before .short-event .ensures)
+returns-2 c =
+    let a = c .before .before .before .before .before .args in
+    c .fine-at2 .ensures ∙ fine-copied (a .events .now) (12 * a .i) (c .before .before .short-event .ensures)
 
 pub event-fine-spec : {M : Type 1} → statement M
 event-fine-spec =

@@ -24,8 +24,8 @@ shared-slice-read-field c = search needs
 past-list-requires : tie.Need-past-list-requires
 past-list-requires c κs = search needs
 
-past-field-requires : tie.Need-past-field-requires
-past-field-requires c κs = search needs
+scx-only-requires : tie.Need-scx-only-requires
+scx-only-requires c κs = search needs
 
 add-result : tie.Need-add-result
 add-result c = search needs
@@ -55,8 +55,8 @@ returns-2 c =
 past-list-requires-3 : tie.Need-past-list-requires-3
 past-list-requires-3 c κs = search needs
 
-past-field-requires-2 : tie.Need-past-field-requires-2
-past-field-requires-2 c κs = search needs
+scx-only-requires-2 : tie.Need-scx-only-requires-2
+scx-only-requires-2 c κs = search needs
 
 add-result-3 : tie.Need-add-result-3
 add-result-3 c = search needs
@@ -78,8 +78,8 @@ returns-3 c =
 past-list-requires-4 : tie.Need-past-list-requires-4
 past-list-requires-4 c κs = search needs
 
-past-field-requires-3 : tie.Need-past-field-requires-3
-past-field-requires-3 c κs = search needs
+scx-only-requires-3 : tie.Need-scx-only-requires-3
+scx-only-requires-3 c κs = search needs
 
 add-result-5 : tie.Need-add-result-5
 add-result-5 c = search needs
@@ -102,8 +102,8 @@ returns-4 c =
 past-list-requires-5 : tie.Need-past-list-requires-5
 past-list-requires-5 c κs = search needs
 
-past-field-requires-4 : tie.Need-past-field-requires-4
-past-field-requires-4 c κs = search needs
+scx-only-requires-4 : tie.Need-scx-only-requires-4
+scx-only-requires-4 c κs = search needs
 
 add-result-7 : tie.Need-add-result-7
 add-result-7 c = search needs
@@ -133,7 +133,7 @@ unused-spec =
     add-field
     shared-slice-read-field
     past-list-requires
-    past-field-requires
+    scx-only-requires
     add-result
     sum-requires
     add-result-2
@@ -141,19 +141,19 @@ unused-spec =
     past-list-requires-2
     returns-2
     past-list-requires-3
-    past-field-requires-2
+    scx-only-requires-2
     add-result-3
     sum-requires-2
     add-result-4
     returns-3
     past-list-requires-4
-    past-field-requires-3
+    scx-only-requires-3
     add-result-5
     sum-requires-3
     add-result-6
     returns-4
     past-list-requires-5
-    past-field-requires-4
+    scx-only-requires-4
     add-result-7
     sum-requires-4
     add-result-8

@@ -14,7 +14,9 @@ up-to-requires : tie.Need-up-to-requires
 up-to-requires c κs = search needs
 
 returns : tie.Need-returns
-returns c = both-yes (c .before .before .before .before .within .ensures) (c .before .before .before .if1 .taken) (both-yes (c .before .before .within2 .ensures) (c .before .if2 .taken) (c .up-to .ensures))
+returns c =
+    both-yes (c .before .before .before .before .within .ensures) (c .before .before .before .if1 .taken)
+    (both-yes (c .before .before .within2 .ensures) (c .before .if2 .taken) (c .up-to .ensures))
 
 returns-2 : tie.Need-returns-2
 returns-2 c = both-yes (c .before .before .before .within .ensures) (c .before .before .if1 .taken) (both-no _ (c .before .within2 .ensures) (c .if2 .left))
