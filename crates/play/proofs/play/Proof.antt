@@ -147,10 +147,12 @@ element-set-from-rec2 : tie.Need-element-set-from-rec2 Inv-loop2 μ-loop2 Inv-lo
 element-set-from-rec2 c = search needs
 
 mul-change2 : tie.Need-mul-change2 Inv-loop2 μ-loop2 Inv-loop μ-loop
-mul-change2 c = omega (arith, c .before .before .before .before .before .before .before .before .before .before .before .before .before .before .before .before .before .before .number-of .ok)
+mul-change2 c =
+    omega (arith, c .before .before .before .before .before .before .before .before .before .before .before .before .before .before .before .before .before .before .number-of .ok)
 
 element-set-from-change2 : tie.Need-element-set-from-change2 Inv-loop2 μ-loop2 Inv-loop μ-loop
-element-set-from-change2 c = omega (arith, c .before .before .before .before .before .before .before .before .before .before .before .before .before .before .before .before .before .before .number-of .ok)
+element-set-from-change2 c =
+    omega (arith, c .before .before .before .before .before .before .before .before .before .before .before .before .before .before .before .before .before .before .number-of .ok)
 
 mul-task2 : tie.Need-mul-task2 Inv-loop2 μ-loop2 Inv-loop μ-loop
 mul-task2 c = search needs
@@ -204,25 +206,37 @@ counted-by-requires : tie.Need-counted-by-requires Inv-loop2 μ-loop2 Inv-loop �
 counted-by-requires c κs = search needs
 
 add-i : tie.Need-add-i Inv-loop2 μ-loop2 Inv-loop μ-loop
-add-i c = omega (arith, c .before .before .before .before .before .before .before .before .before .before .before .before .before .before .before .before .before .before .before .before .before .before .before .before .before .before .before .before .before .before .loop-test .taken, c .before .before .before .before .before .before .before .before .before .before .before .before .before .before .before .before .before .before .before .before .before .before .before .before .before .before .before .before .before .before .before .before .before .before .before .fits .count .fits)
+add-i c =
+    let first = c .before .before .before .before .before .before .before .before .before .before .before .before .before .before .before
+    .before .before .before .before .before .before .before .before .before .before .before .before .before .before .before in
+    omega (arith, first .loop-test .taken, first .before .before .before .before .before .fits .count .fits)
 
 put-answer-requires : tie.Need-put-answer-requires Inv-loop2 μ-loop2 Inv-loop μ-loop
 put-answer-requires c κs = search needs
 
 loop-less : tie.Need-loop-less Inv-loop2 μ-loop2 Inv-loop μ-loop
-loop-less c = omega (arith, c .before .before .before .before .before .before .before .before .before .before .before .before .before .before .before .before .before .before .before .before .before .before .before .before .before .before .before .before .before .before .before .before .before .before .loop-test .taken, c .before .before .before .before .before .before .before .before .before .before .before .before .before .before .before .before .before .before .before .before .before .before .before .before .before .before .before .before .before .before .before .before .before .before .before .before .before .before .before .fits .count .fits)
+loop-less c =
+    let first = c .before .before .before .before .before .before .before .before .before .before .before .before .before .before .before .before .before
+    .before .before .before .before .before .before .before .before .before .before .before .before .before .before .before .before .before in
+    omega (arith, first .loop-test .taken, first .before .before .before .before .before .fits .count .fits)
 
 loop-again : tie.Need-loop-again Inv-loop2 μ-loop2 Inv-loop μ-loop
 loop-again c =
-    let l2 = c .before .before .before .before .before .before .before .before .loop2 in
-    let d = c .before .before .before .before .before .before .before .before .before .before .before .before .before .before .turn in
-    let e : l2 .j ≡ d .result .drop = omega (arith, l2 .inv .0, c .before .before .before .before .before .before .before .loop2-test .left) in (
-      omega (arith, c .before .before .before .before .before .before .before .before .before .before .before .before .before .before .before .before .before .before .before .before .before .before .before .before .before .before .before .before .before .before .before .before .before .before .loop-test .taken),
-      goes-on _ _ _ _ _ _ _ _ _ _ _ _ _ _ _ _ (c .before .before .before .before .before .before .before .before .before .before .before .before .before .before .before .before .before .before .before .before .before .before .before .before .before .before .before .before .before .before .before .before .before .before .before .loop .inv .1)
-          (omega (arith, c .before .before .before .before .before .before .before .before .before .before .before .before .before .before .before .before .before .before .before .before .before .before .before .before .before .before .before .before .before .before .before .before .before .before .loop-test .taken, c .before .before .before .before .before .before .before .before .before .before .before .before .before .before .before .before .before .before .before .before .before .before .before .before .before .before .before .before .before .before .before .before .before .before .before .before .before .before .before .fits .count .fits))
-          (c .before .before .before .before .before .before .before .before .before .before .before .before .before .before .before .before .before .before .before .before .before .before .before .before .before .before .before .before .before .before .before .before .before .event .ensures)
-          (turned _ _ _ _ _ _ _ _ (c .before .before .before .before .before .before .before .before .before .before .before .before .before .before .before .before .before .before .before .before .before .before .before .before .before .before .before .before .number-of .ensures) (c .before .before .before .before .before .before .before .before .before .before .before .before .before .before .before .before .before .before .before .before .before .before .before .before .before .before .access-of .ensures) (c .before .before .before .before .before .before .before .before .before .before .before .before .before .before .before .before .before .before .before .before .before .before .before .before .before .record-of .ensures)
-          (near-is (c .before .before .before .before .before .before .before .before .before .before .before .before .before .before .before .before .before .before .before .before .before .before .before .before .before .before .before .before .before .before .before .before .before .before .before .loop .m .links) (c .before .before .before .before .before .before .before .before .before .before .before .before .before .before .before .before .before .before .before .before .before .before .before .before .before .before .before .before .before .before .before .before .before .event .result .task % 8) (c .before .before .before .before .before .before .before .before .before .before .before .before .before .before .before .before .before .before .before .before .before .before .before .before .before .before .before .before .before .before .before .before .before .event .result .list) _ _ _ _ (c .before .before .before .before .before .before .before .before .before .before .before .before .before .before .before .before .before .before .before .before .before .before .number-at .ensures) (c .before .before .before .before .before .before .before .before .before .before .before .before .before .before .before .before .before .before .before .before .before .number-at2 .ensures) (c .before .before .before .before .before .before .before .before .before .before .before .before .before .before .before .before .before .before .before .before .number-at3 .ensures) (c .before .before .before .before .before .before .before .before .before .before .before .before .before .before .before .before .before .before .before .number-at4 .ensures)) (d .ensures) (rw e at (l2 .inv .1)))
+    let dropped = c .before .before .before .before .before .before .before .before in
+    let turn = dropped .before .before .before .before .before .before in
+    let near = turn .before .before .before .before .before in
+    let named = near .before .before .before .before .before .before in
+    let first = named .before .before .before .before .before .before .before .before .before in
+    let event = named .before .before .before .before .before .before .before .before .event in
+    let loop = first .before .loop in
+    let small = first .loop-test .taken in
+    let e : dropped .loop2 .j ≡ turn .turn .result .drop = omega (arith, dropped .loop2 .inv .0, c .before .before .before .before .before .before .before .loop2-test .left) in (
+      omega (arith, small),
+      goes-on _ _ _ _ _ _ _ _ _ _ _ _ _ _ _ _ (loop .inv .1) (omega (arith, small, first .before .before .before .before .before .fits .count .fits)) (event .ensures)
+          (turned _ _ _ _ _ _ _ _ (named .before .before .before .number-of .ensures) (named .before .access-of .ensures) (named .record-of .ensures)
+          (near-is (loop .m .links) (event .result .task % 8) (event .result .list) _ _ _ _
+          (near .before .before .before .number-at .ensures) (near .before .before .number-at2 .ensures) (near .before .number-at3 .ensures) (near .number-at4 .ensures))
+          (turn .turn .ensures) (rw e at (dropped .loop2 .inv .1)))
           (c .before .before .before .before .before .before .operation-of .ensures)
           (c .before .before .before .before .counted-by .ensures)
           (c .before .before .put-answer .ensures),
