@@ -13,7 +13,7 @@ use Rattle.sheet.specs.Layout.{trailer, distance, layoutOf, valuesPart, eventsP
 use Rattle.sheet.proofs.Laws.{Kept, read-kept, kept-read, Inside, read-inside}
 use Rattle.back.specs.Back.{ReadAs, Heading}
 
--- what lies from a place on lies behind the heading
+-- what lies from a position on lies behind the heading
 behind : (h s : List ℕ) (k j : ℕ) → j ≡ length h + k → drop j (h ++ s) ≡ drop k s
 behind h s k j e = rw e (drop-append-add h s k)
 
@@ -63,11 +63,14 @@ module _ (h s : List ℕ) (at : Layout) (e : sheetOf s ≡ Read at) (l : length 
         size-kept = passes 0 (sizeFine (length (h ++ s))) (omega (arith, size-is, inside .whole), omega arith);
         tag-kept = rw trailer-same (kept .tag-kept);
         counts-kept = kept .counts-kept;
-        back-kept = rw trailer-same (passes 0 (distanceFine (distance (trailer s)) (at .n) (at .count) (length (h ++ s) - 8)) (was .0, omega (arith, size-is, inside .whole, was .1)));
+        back-kept =
+            rw trailer-same
+            (passes 0 (distanceFine (distance (trailer s)) (at .n) (at .count) (length (h ++ s) - 8))
+            (was .0, omega (arith, size-is, inside .whole, was .1)));
         events-kept = rw events-same (kept .events-kept);
       }
 
-  pub headed : ReadAs (h ++ s) (partsOf s at) (at .count) (length h + at .from)
+  headed : ReadAs (h ++ s) (partsOf s at) (at .count) (length h + at .from)
   unfolding partsOf
   headed = record { accepted = kept-read still-kept; parts = rw (values-same, events-same) refl }
 

@@ -1,5 +1,5 @@
 -- THE TWO TRIPS: parts written and read again are the same; a sheet read and written again is the same from its initial values on.
-use Prim.Native.Nat.{ℕ, _+_, _-_, _*_, _/_, _%_, _<_, _≤_}
+use Prim.Native.Nat.{ℕ, _+_, _-_, _*_, _/_, _<_, _≤_}
 use native.Mathlib.Nat.{add-zero}
 use native.Mathlib.Omega.{arith}
 use mathlib.Core.Path.{_≡_, refl, sym, ap, ap₂, _∙_}
@@ -13,17 +13,14 @@ use Rattle.rules.proofs.Exact.{told, passes}
 use Rattle.sheet.specs.declared.Layout.{Layout}
 use Rattle.sheet.specs.declared.Sheet.the-variants.{Read}
 use Rattle.sheet.specs.declared.Written.the-variants.{Sheet as WrittenSheet}
-use Rattle.sheet.specs.Layout.{byte, pair, lowFirst, trailer, distance, layoutOf, valuesPart, eventsPart, sizeFine, tagFine, countsFine, distanceFine, givenFine, partsSize, sheetSize, sheetOf, numbers, Parts, partsOf, valueBytes, trailerBytes, sheetBytes, bytesOf}
+use Rattle.sheet.specs.Layout.{byte, pair, lowFirst, trailer, distance, layoutOf, valuesPart, eventsPart, partsSize, sheetSize, sheetOf}
+use Rattle.sheet.specs.Layout.{sizeFine, tagFine, countsFine, distanceFine, givenFine, numbers, Parts, partsOf, valueBytes, trailerBytes, sheetBytes, bytesOf}
 use Rattle.sheet.proofs.Stored.{length-value-bytes}
 use Rattle.sheet.proofs.Writing.{Sized, given-sized, sheet-length}
 use Rattle.sheet.proofs.Laws.{Kept, read-kept, kept-read, Inside, read-inside, Accepts, written-accepts, accepts-written, accepts-buffer}
 use Rattle.back.specs.Back.{AllBelow, writes, leaves, over, WrittenThenRead, ReadThenWritten, Writing, Reading}
-use Rattle.back.proofs.Values.{values-back, bytes-back, low-first}
+use Rattle.back.proofs.Values.{two-bytes, values-back, bytes-back, low-first}
 use Rattle.back.proofs.Heading.{heading}
-
--- two bytes of a number below 65,536 are the number
-two-bytes : (v : ℕ) → v < 65536 → v % 256 + 256 * (v / 256 % 256) ≡ v
-two-bytes v l = omega arith
 
 -- WRITTEN, THEN READ
 module _ (x : Parts) (count : ℕ) {space : ℕ} (below : AllBelow 65536 (x .values)) (ok : Accepts (x .p) (x .n) count (x .values) (x .events) space) where
@@ -89,8 +86,15 @@ module _ (x : Parts) (count : ℕ) {space : ℕ} (below : AllBelow 65536 (x .val
         layout = layout-is;
         size-kept = passes 0 (sizeFine (length (bytesOf x))) (omega (arith, whole-size), omega (arith, whole-size, sized .most, sized .records));
         tag-kept = rw trailer-is (passes 0 (tagFine last) (refl, refl));
-        counts-kept = passes 0 (countsFine (x .p) (x .n) count) ((omega (arith, sized .tasks), omega (arith, sized .tasks)), ((omega (arith, sized .records), omega (arith, sized .records)), omega (arith, sized .most)));
-        back-kept = rw (trailer-is, distance-back) (passes 0 (distanceFine (partsSize (x .n) count) (x .n) count (length (bytesOf x) - 8)) (eq-eqb (partsSize (x .n) count) (partsSize (x .n) count) refl, omega (arith, whole-size)));
+        counts-kept =
+            passes 0 (countsFine (x .p) (x .n) count) (
+              (omega (arith, sized .tasks), omega (arith, sized .tasks)),
+              ((omega (arith, sized .records), omega (arith, sized .records)), omega (arith, sized .most)),
+            );
+        back-kept =
+            rw (trailer-is, distance-back)
+            (passes 0 (distanceFine (partsSize (x .n) count) (x .n) count (length (bytesOf x) - 8))
+            (eq-eqb (partsSize (x .n) count) (partsSize (x .n) count) refl, omega (arith, whole-size)));
         events-kept = rw events-part (ok .events-kept);
       }
 
@@ -103,7 +107,7 @@ module _ (x : Parts) (count : ℕ) {space : ℕ} (below : AllBelow 65536 (x .val
   buffer-is : (old : List ℕ) → length old ≡ space → leaves x count old ≡ over (bytesOf x) old
   buffer-is old l = rw bytes-are (accepts-buffer old (rw l ok))
 
-  pub written-read : {size : ℕ} → writes x count space ≡ WrittenSheet size → WrittenThenRead x count space size
+  written-read : {size : ℕ} → writes x count space ≡ WrittenSheet size → WrittenThenRead x count space size
   written-read {size} e =
       let f = accepts-written ok in
       let size-is : size ≡ sheetSize (x .n) count = cc in
@@ -239,7 +243,7 @@ module _ (s : List ℕ) (at : Layout) (below : AllBelow 256 s) (e : sheetOf s �
         fits = omega (arith, rest-size);
       }
 
-  pub read-written : ReadThenWritten s at (partsOf s at)
+  read-written : ReadThenWritten s at (partsOf s at)
   unfolding partsOf
   read-written =
       record {

@@ -8,13 +8,10 @@ use Rattle.table.specs.Table.{tabulate}
 use Rattle.sheet.specs.Layout.{pair, lowFirst, numbers, valueBytes}
 use Rattle.back.specs.Back.{AllBelow}
 
--- two places on, in two lists of which one has two more in front
-twice : (i : ℕ) → 2 * suc i ≡ suc (suc (2 * i))
-twice i = omega arith
-
+-- two positions on, in two lists of which one has two more in front
 pair-behind : (a b : ℕ) (l : List ℕ) (i : ℕ) → pair (a ∷ b ∷ l) (2 * suc i) ≡ pair l (2 * i)
 pair-behind a b l i =
-    let e : 2 * suc i ≡ suc (suc (2 * i)) = twice i in
+    let e : 2 * suc i ≡ suc (suc (2 * i)) = omega arith in
     let f : 2 * suc i + 1 ≡ suc (suc (2 * i + 1)) = omega arith in
     rw (f, e) refl
 
@@ -26,14 +23,17 @@ numbers-behind : (a b : ℕ) (l : List ℕ) (k : ℕ) → numbers (suc k) (a ∷
 unfolding numbers tabulate
 numbers-behind a b l k = ap (λ (f : ℕ → ℕ). (a + 256 * b) ∷ tabulate k f) (fun-ext (λ i. pair-behind a b l i))
 
--- VALUES, written and read
+-- two bytes of a number below 65,536 are the number
+pub two-bytes : (v : ℕ) → v < 65536 → v % 256 + 256 * (v / 256 % 256) ≡ v
+two-bytes v l = omega arith
+
+-- values, written and read
 pub values-back : (l : List ℕ) → AllBelow 65536 l → numbers (length l) (valueBytes l) ≡ l
 unfolding valueBytes
 values-back [] below = numbers-none []
 values-back (v ∷ l) below =
-    let e : v % 256 + 256 * (v / 256 % 256) ≡ v = omega (arith, below 0 (omega arith)) in
     numbers-behind (v % 256) (v / 256 % 256) (valueBytes l) (length l)
-    ∙ ap₂ _∷_ e (values-back l (λ i q. below (suc i) (omega arith)))
+    ∙ ap₂ _∷_ (two-bytes v (below 0 (omega arith))) (values-back l (λ i q. below (suc i) (omega arith)))
 
 -- bytes, read and written
 pub low-first : (a b : ℕ) → a < 256 → b < 256 → lowFirst (a + 256 * b) ≡ a ∷ b ∷ []

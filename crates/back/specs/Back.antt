@@ -1,7 +1,7 @@
 -- ROUND TRIPS, what is claimed of the reader and the writer together. "The parts read from an accepted sheet, written again, give its bytes
 -- from the initial values on"; parts written and read again are the same parts; "any heading bytes of the owner's" change nothing.
--- Each claim is about what the contracts of `layout_of`, `values`, `event` and `write` say: sheetOf, valuesIn, eventAt of the event bytes, writtenOf and
--- bufferOf. Bytes are below 256 and values below 65,536 by the types of the code; proofs/ has the claims proved.
+-- Each claim is about what the contracts of `layout_of`, `values`, `event` and `write` say: sheetOf, valuesIn, eventAt of the event bytes,
+-- writtenOf and bufferOf. Bytes are below 256 and values below 65,536 by the types of the code; proofs/ has the claims proved.
 use Prim.Native.Nat.{ℕ, _+_, _*_, _<_, _≤_}
 use mathlib.Core.Path.{_≡_}
 use mathlib.Core.List.{List, _++_}
@@ -28,7 +28,7 @@ leaves x count old = bufferOf (x .p) (x .n) count (x .values) (x .events) old
 abbrev pub over : List ℕ → List ℕ → List ℕ
 over bytes old = bytes ++ drop (length bytes) old
 
--- bytes are read as parts that begin at a place, with an event count
+-- bytes are read as parts that begin at a position, with an event count
 abbrev pub placed : Parts → ℕ → ℕ → Layout
 placed x count from = record { p = x .p; n = x .n; count = count; from = from }
 

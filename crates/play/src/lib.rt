@@ -6,7 +6,7 @@ use table::Machine;
 use tally::Tally;
 use tally::Told;
 
-// What the events leave: the machine, the tally of their answers, and the place after their lines.
+// What the events leave: the machine, the tally of their answers, and the position after their lines.
 pub struct Played {
     pub m: Machine,
     pub tally: Tally,

@@ -2,9 +2,9 @@
 use Prim.Native.Nat.{ℕ, _+_, _-_, _*_, _≤_}
 use native.Mathlib.Omega.{arith}
 use mathlib.Core.Path.{_≡_, refl, sym, ap, ap₂, subst, _∙_}
+use mathlib.Core.Bool.{true}
 use mathlib.Core.List.{List, _++_}
 use lib.ListN.{length, take, drop, length-append}
-use mathlib.Core.Bool.{true}
 use borrow.Author.Tests.{lt-ltb, le-leb, eq-eqb}
 use Rattle.table.proofs.Tabulate.{length-tabulate}
 use Rattle.table.specs.Fresh.{inRange, fresh}
@@ -28,8 +28,8 @@ use Rattle.play.specs.Play.{turnsTo, toldIn, lineIn, Plays}
 use Rattle.runner.specs.Run.{machineAt, eventLine, recordLineAt, runText, tableOf, runOf}
 use Rattle.runner.proofs.Same.{same-machine, same-lines, same-tally}
 
-pub back : (a b : ℕ) → a + b - a ≡ b
-back a b = omega arith
+pub less-first : (a b : ℕ) → a + b - a ≡ b
+less-first a b = omega arith
 
 -- as many values as are taken
 pub taken : (part vs : List ℕ) (k : ℕ) → vs ≡ valuesIn part → k ≤ 128 → k ≡ length (take k vs)
@@ -81,9 +81,9 @@ module _ (s : List ℕ) (at : Layout) (e : sheetOf s ≡ Read at) where
   few : count ≤ 65535
   few = omega (arith, read-inside e .most-events)
 
-  same-run : joined (lineIn m es) count ++ joined (recordLineAt (turnsTo m es count)) (at .n) ++ tallyLine (tallyOf (firstOf (toldIn m es) count)) ≡ runOf s at
+  same-text : joined (lineIn m es) count ++ joined (recordLineAt (turnsTo m es count)) (at .n) ++ tallyLine (tallyOf (firstOf (toldIn m es) count)) ≡ runOf s at
   unfolding runText
-  same-run =
+  same-text =
       ap₂ (λ (x : List ℕ) (y : Machine). x ++ joined (recordLineAt y) (at .n) ++ tallyLine (tallyOf (firstOf (toldIn m es) count)))
       (ap (λ (f : ℕ → List ℕ). joined f count) (same-lines m es (sized s at e) (shaped s at e))) (same-machine m es (sized s at e) (shaped s at e) count)
       ∙ ap (λ (t : Tally). joined (eventLine m es) count ++ joined (recordLineAt (machineAt m es count)) (at .n) ++ tallyLine t) (same-tally m es (sized s at e) (shaped s at e) count few)
@@ -102,12 +102,14 @@ module _ (s : List ℕ) (at : Layout) (e : sheetOf s ≡ Read at) where
       text : joined (lineIn m es) count ++ joined (recordLineAt (o .m)) (at .n) ++ tallyLine (o .tally) ≡ runOf s at
       text =
           ap₂ (λ (x : Machine) (t : Tally). joined (lineIn m es) count ++ joined (recordLineAt x) (at .n) ++ tallyLine t) (w .machine) (w .tally)
-          ∙ same-run
+          ∙ same-text
 
       long : length (joined (lineIn m es) count ++ joined (recordLineAt (o .m)) (at .n) ++ tallyLine (o .tally)) ≤ 42 * at .count + 38 * at .n + 20
       long =
-          rw
-          (length-append (joined (lineIn m es) count ++ joined (recordLineAt (o .m)) (at .n)) (tallyLine (o .tally)), length-append (joined (lineIn m es) count) (joined (recordLineAt (o .m)) (at .n)))
+          rw (
+            length-append (joined (lineIn m es) count ++ joined (recordLineAt (o .m)) (at .n)) (tallyLine (o .tally)),
+            length-append (joined (lineIn m es) count) (joined (recordLineAt (o .m)) (at .n)),
+          )
           (omega (arith, w .most, records .1, tally-most (o .tally)))
 
   pub run-is : (size : ℕ) (first : Machine) (o : Played) (old mid end new : List ℕ) (q r : ℕ)

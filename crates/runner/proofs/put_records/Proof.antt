@@ -42,14 +42,17 @@ loop-again : tie.Need-loop-again Inv-loop μ-loop
 loop-again c = (
   search needs,
   again (c .before .before .before .before .before .before .loop .inv .1) (c .before .before .put-record .ensures .0),
-  most-again (recordLineAt (c .before .before .before .before .before .before .before .before .args .t3)) 38 _ (c .before .before .before .before .before .before .loop .inv .2) (c .before .before .put-record .ensures .1),
+  most-again (recordLineAt (c .before .before .before .before .before .before .before .before .args .t3)) 38 _ (c .before .before .before .before .before .before .loop .inv .2)
+      (c .before .before .put-record .ensures .1),
 )
 
 same-length : tie.Need-same-length Inv-loop μ-loop
 same-length c = search needs
 
 returns : tie.Need-returns Inv-loop μ-loop
-returns c = (done (c .before .loop .inv .1) (omega arith), (let e : c .before .loop .r ≡ c .before .before .before .args .n = omega arith in rw e at (c .before .loop .inv .2)))
+returns c =
+    let e : c .before .loop .r ≡ c .before .before .before .args .n = omega arith in
+    (done (c .before .loop .inv .1) e, rw e at (c .before .loop .inv .2))
 
 pub put-records-spec : {M : Type 1} → statement M
 put-records-spec =

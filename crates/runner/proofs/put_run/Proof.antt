@@ -2,7 +2,7 @@
 use native.Mathlib.Omega.{arith}
 use borrow.Author.Needs.{needs}
 use Rattle.sheet.proofs.Laws.{read-inside}
-use Rattle.runner.proofs.Glue.{back, run-is}
+use Rattle.runner.proofs.Glue.{less-first, run-is}
 use Rattle.runner.proofs.put_run.Statement.{statement}
 use Rattle.runner.proofs.put_run.Tie as tie
 
@@ -49,7 +49,12 @@ same-length : tie.Need-same-length
 same-length c = search needs
 
 returns : tie.Need-returns
-returns c = run-is _ _ (c .before .before .before .before .before .before .before .before .before .before .before .before .before .before .before .before .before .before .before .before .before .pre) _ _ _ _ _ _ _ _ _ (back _ _) (c .before .before .before .before .before .before .before .before .before .before .before .before .before .before .before .before .before .before .table-of .ensures) (c .before .before .before .before .before .before .before .before .before .before .before .before .play .ensures) (c .before .before .before .before .before .before .put-records .ensures) (c .before .before .put-tally .ensures)
+returns c =
+    let records = c .before .before .before .before .before .before in
+    let played = records .before .before .before .before .before .before in
+    let table = played .before .before .before .before .before .before in
+    run-is _ _ (table .before .before .before .pre) _ _ _ _ _ _ _ _ _ (less-first _ _) (table .table-of .ensures) (played .play .ensures)
+    (records .put-records .ensures) (c .before .before .put-tally .ensures)
 
 pub put-run-spec : {M : Type 1} → statement M
 put-run-spec =

@@ -2,7 +2,7 @@
 use native.Mathlib.Omega.{arith}
 use borrow.Author.Needs.{needs}
 use Rattle.sheet.proofs.Laws.{read-inside}
-use Rattle.runner.proofs.Glue.{back, taken, table-is}
+use Rattle.runner.proofs.Glue.{less-first, taken, table-is}
 use Rattle.runner.proofs.table_of.Statement.{statement}
 use Rattle.runner.proofs.table_of.Tie as tie
 
@@ -13,7 +13,7 @@ mul-end : tie.Need-mul-end
 mul-end c = search needs
 
 add-end : tie.Need-add-end
-add-end c = omega (arith, read-inside (c .before .before .pre) .whole, read-inside (c .before .before .pre) .records .1, read-inside (c .before .before .pre) .most-bytes)
+add-end c = let i = read-inside (c .before .before .pre) in omega (arith, i .whole, i .records .1, i .most-bytes)
 
 sub-values : tie.Need-sub-values
 sub-values c = search needs
@@ -22,7 +22,7 @@ part-values-start : tie.Need-part-values-start
 part-values-start c = search needs
 
 part-values-end : tie.Need-part-values-end
-part-values-end c = omega (arith, read-inside (c .before .before .pre) .whole, read-inside (c .before .before .pre) .records .1, read-inside (c .before .before .pre) .most-bytes)
+part-values-end c = let i = read-inside (c .before .before .pre) in omega (arith, i .whole, i .records .1, i .most-bytes)
 
 values-requires : tie.Need-values-requires
 values-requires c κs = search needs
@@ -34,7 +34,7 @@ mul-given : tie.Need-mul-given
 mul-given c = search needs
 
 array-share-prefix-values : tie.Need-array-share-prefix-values
-array-share-prefix-values c = omega (arith, read-inside (c .before .before .before .before .before .pre) .whole, read-inside (c .before .before .before .before .before .pre) .records .1, read-inside (c .before .before .before .before .before .pre) .most-bytes)
+array-share-prefix-values c = let i = read-inside (c .before .before .before .before .before .pre) in omega (arith, i .whole, i .records .1, i .most-bytes)
 
 slice-aggregate-fresh : tie.Need-slice-aggregate-fresh
 slice-aggregate-fresh c =
@@ -45,7 +45,9 @@ fresh-requires : tie.Need-fresh-requires
 fresh-requires c κs = search needs
 
 returns : tie.Need-returns
-returns c = table-is _ _ _ _ _ (back _ _) (read-inside (c .before .before .before .before .before .before .before .before .pre) .records .1) (c .before .before .before .before .values .ensures) (c .before .fresh .ensures)
+returns c =
+    let read = c .before .before .before .before in
+    table-is _ _ _ _ _ (less-first _ _) (read-inside (read .before .before .before .before .pre) .records .1) (read .values .ensures) (c .before .fresh .ensures)
 
 pub table-of-spec : {M : Type 1} → statement M
 table-of-spec =
