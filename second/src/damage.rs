@@ -40,8 +40,7 @@ fn all() -> Vec<Damage> {
     all.extend([1, 7, 8, 12, 40].map(Cut));
     all.extend([0, 0, 6, 7, 128, 255].map(Kind));
     for kind in LLX..=STEP {
-        let listed = if kind == SCX || kind == VLX { 0 } else { 1 };
-        let unused = (0..EVENT).filter(|i| used_bytes(kind, listed) & (1 << i) == 0);
+        let unused = (0..EVENT).filter(|i| used_bytes(kind, 0) & (1 << i) == 0);
         all.extend(unused.map(|i| Unused(kind, i)));
     }
     all.extend([Noise(false), Noise(true)]);

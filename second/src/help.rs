@@ -2,7 +2,7 @@
 
 use crate::step::{by_state, Then};
 use crate::table::{Answer, Help, Job, Llx, Machine, Place, State, Whose};
-use crate::watch::{Flaw, Watch};
+use crate::watch::{Mistake, Watch};
 use Then::{End, Go};
 
 impl Machine {
@@ -13,7 +13,7 @@ impl Machine {
             Help::H3 => {
                 let frozen = self.change(job.u).all_frozen;
                 watch.seen(if frozen { "H3: yes" } else { "H3: no" });
-                if frozen && !watch.wrong(Flaw::NoAtH3) {
+                if frozen && !watch.wrong(Mistake::NoAtH3) {
                     return verdict(job, true, "H3", watch);
                 }
                 Help::H4
@@ -72,7 +72,7 @@ impl Machine {
             watch.seen("H5: after Aborted");
         }
         match next_mark(change.closes, 0) {
-            Some(i) if !watch.wrong(Flaw::MarksAfterH7) => {
+            Some(i) if !watch.wrong(Mistake::MarksAfterH7) => {
                 watch.seen("H5: to H6");
                 Help::H6 { i }
             }
@@ -96,7 +96,7 @@ impl Machine {
         watch.seen(if next.is_some() { "H6: more" } else { "H6: last" });
         match next {
             Some(i) => Help::H6 { i },
-            None if watch.wrong(Flaw::MarksAfterH7) => Help::H8,
+            None if watch.wrong(Mistake::MarksAfterH7) => Help::H8,
             None => Help::H7,
         }
     }
@@ -105,7 +105,7 @@ impl Machine {
         let change = &self.changes[usize::from(job.u)];
         let r = change.list[usize::from(change.place)];
         let cell = &mut self.records[usize::from(r)].cells[usize::from(change.field)];
-        let same = *cell == change.old || (watch.wrong(Flaw::ValuesAtH7) && cell.value == change.old.value);
+        let same = *cell == change.old || (watch.wrong(Mistake::ValuesAtH7) && cell.value == change.old.value);
         if same {
             cell.value = change.new;
             cell.stamp = job.u;
@@ -116,7 +116,7 @@ impl Machine {
             watch.seen("H7: did not write, a later value");
         }
         match next_mark(change.closes, 0) {
-            Some(i) if watch.wrong(Flaw::MarksAfterH7) => Help::H6 { i },
+            Some(i) if watch.wrong(Mistake::MarksAfterH7) => Help::H6 { i },
             _ => Help::H8,
         }
     }

@@ -1,4 +1,4 @@
-//! The machine of document 01 written from that document alone, and what is needed to compare another program with it.
+//! Document 01's machine, sheet reader and runner written once more, and what is needed to compare another program with them.
 
 pub mod cover;
 pub mod damage;

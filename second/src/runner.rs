@@ -2,7 +2,7 @@
 
 use crate::sheet::Sheet;
 use crate::table::{Answer, Machine, Outcome};
-use crate::watch::{Flaw, Watch};
+use crate::watch::{Mistake, Watch};
 use std::fmt::Write;
 
 /// What the last line counts, brought up to date by every answer.
@@ -43,7 +43,7 @@ fn print_run<W: Watch>(sheet: &Sheet, out: &mut String, watch: &mut W) {
     for (k, event) in sheet.events().enumerate() {
         let outcome = machine.call(&event, watch);
         tally.count(&outcome);
-        if outcome == Ok(Answer::VlxYes) && watch.wrong(Flaw::TallyOfVlx) {
+        if outcome == Ok(Answer::VlxYes) && watch.wrong(Mistake::TallyOfVlx) {
             tally.yes += 1;
         }
         print_event(k + 1, event.task(), &outcome, out);

@@ -14,6 +14,7 @@ pub const TAG: [u8; 2] = [0x52, 0x53];
 pub const MOST_BYTES: usize = 65_000;
 pub const MOST_EVENTS: usize = 5_000;
 pub const EVENT: usize = 12;
+/// The bytes of a record's initial values.
 pub const VALUES: usize = 8;
 
 /// One event as it stands in the sheet.
@@ -112,10 +113,10 @@ impl<'a> Sheet<'a> {
         self.events.chunks_exact(EVENT).map(|b| Event::of(b.try_into().unwrap()))
     }
 
-    /// Tells the watch which edges of the form this sheet stands on.
+    /// Tells the watch which limits this sheet is at.
     fn tell<W: Watch>(&self, size: usize, watch: &mut W) {
         let records = self.values.len() / VALUES;
-        let edges = [
+        let limits = [
             (size == MOST_BYTES, "sheet of 65,000 bytes"),
             (!self.heading.is_empty(), "sheet with a heading"),
             (self.events.is_empty(), "sheet without events"),
@@ -123,7 +124,7 @@ impl<'a> Sheet<'a> {
             (usize::from(self.p) == Machine::TASKS, "sheet with 8 tasks"),
             (records == Machine::RECORDS, "sheet with 32 records"),
         ];
-        edges.iter().filter(|edge| edge.0).for_each(|edge| watch.seen(edge.1));
+        limits.iter().filter(|limit| limit.0).for_each(|limit| watch.seen(limit.1));
     }
 }
 

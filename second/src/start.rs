@@ -2,7 +2,7 @@
 
 use crate::sheet::{Event, Write};
 use crate::table::{Answer, Change, Link, Llx, Machine, Outcome, Place, State};
-use crate::watch::{Flaw, Watch};
+use crate::watch::{Mistake, Watch};
 
 impl Machine {
     /// The call of one event.
@@ -18,7 +18,7 @@ impl Machine {
             Ok(answer) => watch.seen_number("answer", usize::from(answer.number())),
             Err(refusal) => watch.seen_number(refused(event), usize::from(refusal)),
         }
-        if outcome.is_err() && watch.wrong(Flaw::RefusedDrops) {
+        if outcome.is_err() && watch.wrong(Mistake::RefusedDrops) {
             self.drop_named(event);
         }
         outcome
@@ -62,7 +62,7 @@ impl Machine {
         let u = self.changes.len() as u8;
         let change = self.fill(t, n, list, write);
         self.changes.push(change);
-        if !watch.wrong(Flaw::ScxKeeps) {
+        if !watch.wrong(Mistake::ScxKeeps) {
             self.drop_links(t, records);
         }
         self.begin(t, Place::own_change(u))
@@ -124,7 +124,7 @@ impl Machine {
         }
     }
 
-    /// A mistake made on purpose: the links to the records that a refused call names are lost.
+    /// A mistake made on purpose: the links to the records that a refused call names are dropped.
     fn drop_named(&mut self, event: &Event) {
         let list = match *event {
             Event::Llx { r, .. } | Event::Read { r, .. } => [r; 4],

@@ -1,7 +1,7 @@
 //! STEP: one shared access of a task, and the places of LLX, VLX and READ.
 
 use crate::table::{Answer, Cell, Help, Job, Link, Llx, Machine, Outcome, Place, State, Whose};
-use crate::watch::{Flaw, Watch};
+use crate::watch::{Mistake, Watch};
 
 /// What follows an access: another place, or the operation's answer.
 pub enum Then {
@@ -117,7 +117,7 @@ impl Machine {
     }
 
     fn at_l6<W: Watch>(&mut self, t: u8, r: u8, m1: bool, a: u8, cells: [Cell; 4], watch: &mut W) -> Then {
-        let same = if watch.wrong(Flaw::CellsAtL6) { self.record(r).cells == cells } else { self.info(r) == a };
+        let same = if watch.wrong(Mistake::CellsAtL6) { self.record(r).cells == cells } else { self.info(r) == a };
         watch.seen(if same { "L6: same" } else { "L6: differs" });
         if !same {
             return Go(Place::Llx { r, at: Llx::L7 { m1, a } });
@@ -147,10 +147,10 @@ impl Machine {
         } else {
             by_state(state, ["L8: InProgress without m1", "L8: Committed without m1", "L8: Aborted without m1"])
         });
-        if state == State::Committed && m1 && watch.wrong(Flaw::FinalizedAtL8) {
+        if state == State::Committed && m1 && watch.wrong(Mistake::FinalizedAtL8) {
             return End(Answer::Finalized);
         }
-        let help = state == State::InProgress && (m1 || !watch.wrong(Flaw::MarkBeforeHelp));
+        let help = state == State::InProgress && (m1 || !watch.wrong(Mistake::MarkBeforeHelp));
         Go(if help { Place::help(a, Whose::AtL8 { r, m1 }) } else { Place::Llx { r, at: Llx::L9 } })
     }
 
@@ -162,7 +162,7 @@ impl Machine {
         }
         let state = self.state(c);
         watch.seen(by_state(state, ["L11: helps InProgress", "L11: helps Committed", "L11: helps Aborted"]));
-        if state != State::InProgress && watch.wrong(Flaw::IdleL11) {
+        if state != State::InProgress && watch.wrong(Mistake::IdleL11) {
             return End(Answer::Fail);
         }
         Go(Place::help(c, Whose::AtL11))
@@ -173,7 +173,7 @@ impl Machine {
         let same = self.link(t, r).is_some_and(|link| link.info == self.info(r));
         if !same {
             watch.seen(if i == 0 { "VLX: differs at the first" } else { "VLX: differs later" });
-            if !watch.wrong(Flaw::VlxKeeps) {
+            if !watch.wrong(Mistake::VlxKeeps) {
                 self.drop_links(t, &list[..usize::from(n)]);
             }
             return End(Answer::VlxNo);

@@ -7,7 +7,7 @@ pub trait Watch {
     /// The same for what comes in numbers.
     fn seen_number(&mut self, _what: &'static str, _number: usize) {}
 
-    fn wrong(&self, _flaw: Flaw) -> bool {
+    fn wrong(&self, _mistake: Mistake) -> bool {
         false
     }
 }
@@ -19,7 +19,7 @@ impl Watch for Nobody {}
 
 /// Mistakes that a comparison has to notice.
 #[derive(Clone, Copy, Debug, PartialEq, Eq)]
-pub enum Flaw {
+pub enum Mistake {
     MarkBeforeHelp,
     ValuesAtH7,
     NoAtH3,
@@ -33,28 +33,28 @@ pub enum Flaw {
     CellsAtL6,
 }
 
-impl Flaw {
+impl Mistake {
     /// Every mistake; the first five are those of document 01's "How this is usually got wrong", in its order.
-    pub const ALL: [(Flaw, &'static str); 11] = [
-        (Flaw::MarkBeforeHelp, "m1 is tested before helping at L8"),
-        (Flaw::ValuesAtH7, "H7 compares only values"),
-        (Flaw::NoAtH3, "H3 answers no without looking at allFrozen"),
-        (Flaw::MarksAfterH7, "the mark is set after H7"),
-        (Flaw::RefusedDrops, "a refused call drops links"),
-        (Flaw::TallyOfVlx, "the tally counts a VLX's yes as an SCX's"),
-        (Flaw::FinalizedAtL8, "L8 answers Finalized for a change committed since L7"),
-        (Flaw::IdleL11, "L11 helps only a change in progress"),
-        (Flaw::VlxKeeps, "a VLX that answers no keeps its links"),
-        (Flaw::ScxKeeps, "an SCX keeps its links"),
-        (Flaw::CellsAtL6, "L6 compares the cells in place of the info"),
+    pub const ALL: [(Mistake, &'static str); 11] = [
+        (Mistake::MarkBeforeHelp, "m1 is tested before helping at L8"),
+        (Mistake::ValuesAtH7, "H7 compares only values"),
+        (Mistake::NoAtH3, "H3 answers no without looking at allFrozen"),
+        (Mistake::MarksAfterH7, "the mark is set after H7"),
+        (Mistake::RefusedDrops, "a refused call drops links"),
+        (Mistake::TallyOfVlx, "the tally counts a VLX's yes as an SCX's"),
+        (Mistake::FinalizedAtL8, "L8 answers Finalized for a change committed since L7"),
+        (Mistake::IdleL11, "L11 helps only a change in progress"),
+        (Mistake::VlxKeeps, "a VLX that answers no keeps its links"),
+        (Mistake::ScxKeeps, "an SCX keeps its links"),
+        (Mistake::CellsAtL6, "L6 compares the cells in place of the info"),
     ];
 }
 
 /// A machine with one mistake.
-pub struct Broken(pub Flaw);
+pub struct Broken(pub Mistake);
 
 impl Watch for Broken {
-    fn wrong(&self, flaw: Flaw) -> bool {
-        self.0 == flaw
+    fn wrong(&self, mistake: Mistake) -> bool {
+        self.0 == mistake
     }
 }

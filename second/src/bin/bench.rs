@@ -77,7 +77,7 @@ fn undisturbed(events: &mut Vec<Event>, start: Event, steps: usize) {
     events.extend(vec![Event::Step { t: start.task() }; steps]);
 }
 
-/// Eight tasks over two records, every step another's turn.
+/// Eight tasks over two records, most events another task's than the event before.
 fn conflict() -> Draft {
     let mut random = Random::of(1, 0);
     let mut style = Style::of(1, &mut random);
@@ -100,7 +100,7 @@ fn time(program: &str, second: &str, dir: &Path, runs: usize) -> Result<(), Stri
     Ok(())
 }
 
-/// The median times of both in microseconds, run in turn so that both meet the same weather.
+/// The median times of both in microseconds, run in turn, so that what slows the computer for a while slows both.
 fn medians(program: &str, second: &str, sheet: &Path, runs: usize) -> Result<(f64, f64), String> {
     let (mut one, mut other) = (Vec::new(), Vec::new());
     for _ in 0..runs {

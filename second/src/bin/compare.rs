@@ -5,7 +5,7 @@
 use second::cover::Cover;
 use second::differ::{beside, difference};
 use second::sheet::{Sheet, EVENT};
-use second::watch::{Broken, Flaw, Nobody};
+use second::watch::{Broken, Mistake, Nobody};
 use second::{generate, runner};
 use std::fs::{self, File};
 use std::path::Path;
@@ -81,15 +81,15 @@ fn judge(cover: &Cover, sheets: u64) -> Result<(), String> {
 
 /// Every mistake must show in the text of some sheet.
 fn broken(sheets: u64, seed: u64) -> Result<(), String> {
-    let mut noticed = [0; Flaw::ALL.len()];
+    let mut noticed = [0; Mistake::ALL.len()];
     for k in 0..sheets {
         let sheet = generate::sheet(seed, k);
         let right = runner::run(&sheet, &mut Nobody);
-        for (count, (flaw, _)) in noticed.iter_mut().zip(Flaw::ALL) {
-            *count += u64::from(runner::run(&sheet, &mut Broken(flaw)) != right);
+        for (count, (mistake, _)) in noticed.iter_mut().zip(Mistake::ALL) {
+            *count += u64::from(runner::run(&sheet, &mut Broken(mistake)) != right);
         }
     }
-    for (count, (_, name)) in noticed.iter().zip(Flaw::ALL) {
+    for (count, (_, name)) in noticed.iter().zip(Mistake::ALL) {
         println!("{count:>9}  sheets notice that {name}");
     }
     if noticed.contains(&0) {
