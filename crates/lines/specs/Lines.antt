@@ -1,5 +1,6 @@
 -- THE LINES OF A RUN: an event's, "event number from 1, task, number from the table, then four values for 1 or one value for 6"; a
 -- record's, "`R`, its number, mark (0 or 1), four values"; the last, "`T` with the changes made"; and a refused sheet's, "`X` and the number".
+-- In ASCII `R` is 82, `T` is 84 and `X` is 88.
 use Prim.Native.Nat.{ℕ}
 use mathlib.Core.Bool.{Bool}
 use mathlib.Core.List.{List, [], _∷_, map}

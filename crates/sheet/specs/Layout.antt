@@ -87,7 +87,8 @@ eventAt es i = callOf (eventBytes es i)
 unfoldable pub eventsFine : List ℕ → ℕ → Bool
 eventsFine es count = allBelow count (λ i. eventFine (eventBytes es i))
 
--- SHEET: the trailer is "52 53, P, N, event count (2 bytes, low first), and the distance back from the trailer to the initial values"
+-- SHEET: the trailer is "52 53, P, N, event count (2 bytes, low first), and the distance back from the trailer to the initial values";
+-- 52 53 are hexadecimal, 82 and 83 here
 abbrev pub trailer : List ℕ → List ℕ
 trailer s = drop (length s - trailerSize) s
 

@@ -13,7 +13,7 @@ last x = (48 + x % 10) ∷ []
 unfoldable pub lead : ℕ → List ℕ
 lead x = pick (eqb x 0) [] (last x)
 
--- x in decimal, for x below 100,000: a digit for each place at which x has something, and one for the ones
+-- x in decimal, for x below 100,000: its digits from the first that is not 0 on, and one digit for 0
 unfoldable pub digits : ℕ → List ℕ
 digits x = lead (x / 10000) ++ lead (x / 1000) ++ lead (x / 100) ++ lead (x / 10) ++ last x
 

@@ -1,5 +1,5 @@
--- `sheet::layout_of`: the tests in the order of the refusals. Each `-kept` below is what stands behind a test that passed; `Else1` to
--- `Else5` are those places. Behind the fourth, the events' part lies between.
+-- `sheet::layout_of`: the tests in the order of the refusals. Each `-kept` below is what is known behind a test that passed; `Else1` to
+-- `Else5` say behind which.
 use Prim.Native.Nat.{ℕ, _+_, _-_, _*_, _≤_}
 use native.Mathlib.Omega.{arith}
 use mathlib.Core.Path.{_≡_, ap, _∙_}
@@ -16,7 +16,7 @@ use borrow.Author.Needs.{needs}
 use Rattle.sheet.proofs.layout_of.Statement.{statement}
 use Rattle.sheet.proofs.layout_of.Tie as tie
 
--- the lent bytes, as each test's place knows them
+-- the lent bytes, behind each test
 abbrev s1 : tie.After-size-fine → List ℕ
 s1 c = c .before .before .args .s .now
 
