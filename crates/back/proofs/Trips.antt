@@ -16,7 +16,7 @@ use Rattle.sheet.specs.declared.Written.the-variants.{Sheet as WrittenSheet}
 use Rattle.sheet.specs.Layout.{byte, pair, lowFirst, trailer, distance, layoutOf, valuesPart, eventsPart, partsSize, sheetSize, sheetOf}
 use Rattle.sheet.specs.Layout.{sizeFine, tagFine, countsFine, distanceFine, givenFine, numbers, Parts, partsOf, valueBytes, trailerBytes, sheetBytes, bytesOf}
 use Rattle.sheet.proofs.Stored.{length-value-bytes}
-use Rattle.sheet.proofs.Writing.{Sized, given-sized, sheet-length}
+use Rattle.sheet.proofs.Writing.{GivenSizes, given-sizes, sheet-length}
 use Rattle.sheet.proofs.Laws.{Kept, read-kept, kept-read, Inside, read-inside, Accepts, written-accepts, accepts-written, accepts-buffer}
 use Rattle.back.specs.Back.{AllBelow, writes, leaves, over, WrittenThenRead, ReadThenWritten, Writing, Reading}
 use Rattle.back.proofs.Values.{two-bytes, values-back, bytes-back, low-first}
@@ -24,8 +24,8 @@ use Rattle.back.proofs.Heading.{heading}
 
 -- WRITTEN, THEN READ
 module _ (x : Parts) (count : ℕ) {space : ℕ} (below : AllBelow 65536 (x .values)) (ok : Accepts (x .p) (x .n) count (x .values) (x .events) space) where
-  sized : Sized (x .p) (x .n) count (length (x .values)) (length (x .events))
-  sized = given-sized (x .p) (x .n) count (x .values) (x .events) (ok .given-kept)
+  sized : GivenSizes (x .p) (x .n) count (length (x .values)) (length (x .events))
+  sized = given-sizes (x .p) (x .n) count (x .values) (x .events) (ok .given-kept)
 
   abbrev front : List ℕ
   front = valueBytes (x .values)

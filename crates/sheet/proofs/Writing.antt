@@ -19,15 +19,15 @@ abbrev pub given : ℕ → ℕ → ℕ → List ℕ → List ℕ → Bool
 given p n count values events = test 0 (givenFine p n count (length values) (length events))
 
 -- what its test says of what the writer is given
-pub record Sized (p n count values events : ℕ) : Type 0 where
+pub record GivenSizes (p n count values events : ℕ) : Type 0 where
   pub tasks : (1 ≤ p) × (p ≤ 8)
   pub records : (1 ≤ n) × (n ≤ 32)
   pub most : count ≤ 5000
   pub values-are : values ≡ 4 * n
   pub events-are : events ≡ 12 * count
 
-pub given-sized : (p n count : ℕ) (values events : List ℕ) → given p n count values events ≡ true → Sized p n count (length values) (length events)
-given-sized p n count values events e =
+pub given-sizes : (p n count : ℕ) (values events : List ℕ) → given p n count values events ≡ true → GivenSizes p n count (length values) (length events)
+given-sizes p n count values events e =
     let q = told 0 (givenFine p n count (length values) (length events)) e in
     let counts = q .0 in
     record {
@@ -65,7 +65,7 @@ module _ (p n count : ℕ) (values events old : List ℕ) where
   pub sheet-length : given p n count values events ≡ true → length (sheetBytes p n count values events) ≡ sheetSize n count
   unfolding sheetBytes
   sheet-length a =
-      let h = given-sized p n count values events a in
+      let h = given-sizes p n count values events a in
       omega (arith, length-append (valueBytes values ++ events) (trailerBytes p n count), length-append (valueBytes values) events, length-value-bytes values)
 
   pub written : given p n count values events ≡ true → eventsFine events count ≡ true → sheetSize n count ≤ length old → {size : ℕ} → size ≡ sheetSize n count

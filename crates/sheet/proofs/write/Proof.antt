@@ -4,7 +4,7 @@ use mathlib.Core.Path.{_≡_}
 use mathlib.Core.Bool.{true}
 use Rattle.lists.proofs.Laws.{said-yes, said-no}
 use Rattle.sheet.specs.Layout.{eventsFine}
-use Rattle.sheet.proofs.Writing.{given, refused-22, refused-24, refused-25, written, given-sized}
+use Rattle.sheet.proofs.Writing.{given, refused-22, refused-24, refused-25, written, given-sizes}
 use borrow.Author.Needs.{needs}
 use Rattle.sheet.proofs.write.Statement.{statement}
 use Rattle.sheet.proofs.write.Tie as tie
@@ -51,7 +51,7 @@ put-sheet-requires : tie.Need-put-sheet-requires
 put-sheet-requires c κs =
     let c1 = c .before .before .before .before .before .before .before in
     let a = c1 .before .before .before .before .before .args in
-    let h = given-sized (a .p) (a .n) (a .count) (a .values .now) (a .events .now) (given-kept c1) in
+    let h = given-sizes (a .p) (a .n) (a .count) (a .values .now) (a .events .now) (given-kept c1) in
     omega arith
 
 same-length : tie.Need-same-length
