@@ -84,14 +84,17 @@ module _ {M : Type 1} (𝓤 : URA M) (H : Heap 𝓤) (A : Atoms 𝓤) (W : Given
   Own = B (κ, tt) .own d (mach ∷ [])
 
   typed : (n : ℕ) (u : Val) → Is u16 n (u ∷ []) → Holds (hasTy (T′.mir (named 0)) mach) × WT mach → Holds (hasTy (T′.mir (named 0)) (value u)) × WT (value u)
-  typed n u is wt = subst (λ (x : Val). Holds (hasTy (T′.mir (named 0)) (value x)) × WT (value x)) (sym (ap only (is .0))) (tt, (wt .1 .0, (record { fits = is .1 }, tt)))
+  typed n u is wt =
+      subst (λ (x : Val). Holds (hasTy (T′.mir (named 0)) (value x)) × WT (value x)) (sym (ap only (is .0))) (tt, (wt .1 .0, (record { fits = is .1 }, tt)))
 
   -- the call of `following`: what it is passed, what it asks, and what is known of its result
   abbrev to : Following 𝓤 H A mem run .Ghost
   to = ((tt, tt, tt, (d .next, tt), (vint w16 (d .next) ∷ [], tt)), tt)
 
   goes-to : d .next < 2 ^ 16 → ent 𝓤 (emp 𝓤) (Following 𝓤 H A mem run .pre to)
-  goes-to fits = qed W [] ∵ owned ! u16 (Is u16) (uint-makes 𝓤 H A W w16) (d .next) _ (refl, fits) $ nothing ! $ move ! (1 ∷ 0 ∷ []) $ join ! $ nothing ! $ join ! $ frame ! $ done !
+  goes-to fits =
+      qed W [] ∵ owned ! u16 (Is u16) (uint-makes 𝓤 H A W w16) (d .next) _ (refl, fits) $ nothing ! $ move ! (1 ∷ 0 ∷ []) $ join ! $ nothing ! $
+      join ! $ frame ! $ done !
 
   said : (n : ℕ) → ent 𝓤 (ensured 𝓤 H A following.ended (following.clauses 𝓤 H A mem run) tt (d .next, tt) tt n) (fact 𝓤 (n ≡ (d .next + 1) % 65536))
   said n = exE 𝓤 _ (λ ws. snd∗ 𝓤 (sem 𝓤 H A (lasts following.ended tt (d .next, tt) ws)) (fact 𝓤 (n ≡ (d .next + 1) % 65536)))
@@ -102,13 +105,16 @@ module _ {M : Type 1} (𝓤 : URA M) (H : Heap 𝓤) (A : Atoms 𝓤) (W : Given
       suffices ! _ (ends-at 𝓤 H A advanced.ended stayed (advanced.clauses 𝓤 H A mem run) W (((κ, tt), (q, tt), tt, (d, tt), at), tt) (T′.lowered (made n)) (made n) (tt, tt) (tt, tt)) $ says ! (refl, e) $
       frame ! $ fsplit ! $ use1 W (‵ Own ⊛ ‵ Own) (LL.copy (T.the-type (namedLft 1 0 tt (κ, tt))) (T′.the-copy (namedLft 1 0 tt (κ, tt))) 𝓤 H A W .twice d (mach ∷ [])) $ split ! $ move ! (0 ∷ 2 ∷ []) $ fjoin ! $ frame ! $
       -- [what the struct owns]: the number's facts stand for next's
-      owned ! u16 (Is u16) (uint-makes 𝓤 H A W w16) n _ (refl, ok) $ move ! (1 ∷ 0 ∷ []) $ by ! (own-put 𝓤 H A W (T.the-type (namedLft 1 0 tt (κ, tt))) (T′.the-laws (namedLft 1 0 tt (κ, tt))) 1 (d .events, (d .next, tt)) n mach)
+      owned ! u16 (Is u16) (uint-makes 𝓤 H A W w16) n _ (refl, ok) $ move ! (1 ∷ 0 ∷ []) $
+      by ! (own-put 𝓤 H A W (T.the-type (namedLft 1 0 tt (κ, tt))) (T′.the-laws (namedLft 1 0 tt (κ, tt))) 1 (d .events, (d .next, tt)) n mach)
 
   exits-as : (n : ℕ) (u : Val) → Is u16 n (u ∷ []) → n ≡ (d .next + 1) % 65536 → ent 𝓤 (onEntry 𝓤 H A advanced.signature (κ, tt) (q, tt) (d, tt) at) (Post (value u))
-  exits-as n u is e = subst (λ (x : Val). ent 𝓤 (onEntry 𝓤 H A advanced.signature (κ, tt) (q, tt) (d, tt) at) (Post (value x))) (sym (ap only (is .0))) (exits n (is .1) e)
+  exits-as n u is e =
+      subst (λ (x : Val). ent 𝓤 (onEntry 𝓤 H A advanced.signature (κ, tt) (q, tt) (d, tt) at) (Post (value x))) (sym (ap only (is .0))) (exits n (is .1) e)
 
   module _ (C : Calls 𝓤 H) (Λ : Loops 𝓤 H) (fm : FmC 𝓤 H (W .laws) C) (known : Triple 𝓤 (C #sheet·following) (Following 𝓤 H A mem run)) where
-    walk : Holds (hasTy (T′.mir (named 0)) mach) × WT mach → ent 𝓤 (onEntry 𝓤 H A advanced.signature (κ, tt) (q, tt) (d, tt) at) (WpFn 𝓤 H C Λ code.function (mach ∷ []) Post)
+    walk : Holds (hasTy (T′.mir (named 0)) mach) × WT mach
+        → ent 𝓤 (onEntry 𝓤 H A advanced.signature (κ, tt) (q, tt) (d, tt) at) (WpFn 𝓤 H C Λ code.function (mach ∷ []) Post)
     walk wt =
         qed W (raw (onEntry 𝓤 H A advanced.signature (κ, tt) (q, tt) (d, tt) at) ∷ []) ∵ enter ! C Λ code.function (mach ∷ []) _ $
         alloc1 ! (λ l₀. alloc1 ! (λ l₁. alloc1 ! (λ l₂. alloc1 ! (λ l₃. alloc1 ! (λ l₄. alloc0 ! $ params1 ! $ pass1 ! (init ! 6 refl wt) $ pass0 ! $
@@ -123,18 +129,24 @@ module _ {M : Type 1} (𝓤 : URA M) (H : Heap 𝓤) (A : Atoms 𝓤) (W : Given
         land ! (from ! (stop !)) (init ! 3 refl (uint-lawful 𝓤 H A W w16 .typed n _ is .0)) $ drop ! $
         assigns ! (agg ! (and-then ! (load ! (from ! (stop !)) (look ! 4 refl)) (and-then ! (load ! (from ! (stop !)) (look ! 2 refl)) (no-more !)))) (from ! (stop !)) (init ! 8 refl (typed n u is wt)) $
         returns ! (look ! 8 refl) $ forget ! 0 refl $ forget ! 2 refl $ forget ! 4 refl $ forget ! 6 refl $ forget ! 8 refl $
-        move ! (8 ∷ 9 ∷ []) $ free1 ! $ move ! (6 ∷ 7 ∷ []) $ free1 ! $ move ! (4 ∷ 5 ∷ []) $ free1 ! $ move ! (2 ∷ 3 ∷ []) $ free1 ! $ free1 ! $ free0 ! $ by ! (exits-as n u is e))))))))))
+        move ! (8 ∷ 9 ∷ []) $ free1 ! $ move ! (6 ∷ 7 ∷ []) $ free1 ! $ move ! (4 ∷ 5 ∷ []) $ free1 ! $ move ! (2 ∷ 3 ∷ []) $ free1 ! $ free1 ! $
+        free0 ! $ by ! (exits-as n u is e))))))))))
 
 module _ {M : Type 1} (𝓤 : URA M) (H : Heap 𝓤) (A : Atoms 𝓤) (W : Given 𝓤 H A) (mem : Memory → SProp 𝓤) (run : Routine → Fun 𝓤) where
   advanced-walks : (C : Calls 𝓤 H) (Λ : Loops 𝓤 H) → FmC 𝓤 H (W .laws) C → Triple 𝓤 (C #sheet·following) (Following 𝓤 H A mem run)
       → Walks 𝓤 H A advanced.ended stayed (WpFn 𝓤 H C Λ code.function) (advanced.clauses 𝓤 H A mem run)
-  advanced-walks C Λ fm known = walked 𝓤 H A advanced.ended stayed (advanced.clauses 𝓤 H A mem run) (WpFn 𝓤 H C Λ code.function) (λ κs. (LL.vals (T.the-type (namedLft 1 0 tt κs)) (T′.the-laws (namedLft 1 0 tt κs)), tt)) (λ κs. (LL.tells (T.the-type (namedLft 1 0 tt κs)) (T′.the-laws (namedLft 1 0 tt κs)), tt))
+  advanced-walks C Λ fm known =
+      walked 𝓤 H A advanced.ended stayed (advanced.clauses 𝓤 H A mem run) (WpFn 𝓤 H C Λ code.function)
+      (λ κs. (LL.vals (T.the-type (namedLft 1 0 tt κs)) (T′.the-laws (namedLft 1 0 tt κs)), tt))
+      (λ κs. (LL.tells (T.the-type (namedLft 1 0 tt κs)) (T′.the-laws (namedLft 1 0 tt κs)), tt))
       (λ κs qs bounds a g are. via 𝓤 _ (fst∗ 𝓤 _ (emp 𝓤)) (walk 𝓤 H A W mem run (κs .0) (qs .0) (a .0) C Λ fm known (LL.lawful (T.the-type (namedLft 1 0 tt κs)) (T′.the-laws (namedLft 1 0 tt κs)) 𝓤 H A W .typed (a .0) _ (are .0) .0)))
 
 advanced-meets : {M : Type 1} (𝓤 : URA M) (H : Heap 𝓤) (A : Atoms 𝓤) (W : Given 𝓤 H A) (mem : Memory → SProp 𝓤) (run : Routine → Fun 𝓤) (𝓣 : Tables 𝓤 H)
     → Triple 𝓤 (𝓣 .C #sheet·following) (Following 𝓤 H A mem run)
     → Meets 𝓤 H A advanced.signature (WpFn 𝓤 H (𝓣 .C) (𝓣 .Λ) code.function) (advanced.spec 𝓤 H A mem run)
-advanced-meets 𝓤 H A W mem run 𝓣 known = walk-meets 𝓤 H A advanced.ended stayed W (goes-none 𝓤 H A W 1 B yes (λ κs x f. refl), tt) (advanced.clauses 𝓤 H A mem run) (WpFn 𝓤 H (𝓣 .C) (𝓣 .Λ) code.function) (WpFn-mono 𝓤 H (W .laws) 𝓣 code.function)
+advanced-meets 𝓤 H A W mem run 𝓣 known =
+    walk-meets 𝓤 H A advanced.ended stayed W (goes-none 𝓤 H A W 1 B yes (λ κs x f. refl), tt) (advanced.clauses 𝓤 H A mem run)
+    (WpFn 𝓤 H (𝓣 .C) (𝓣 .Λ) code.function) (WpFn-mono 𝓤 H (W .laws) 𝓣 code.function)
     (advanced-walks 𝓤 H A W mem run (𝓣 .C) (𝓣 .Λ) (fmOf 𝓤 H (W .laws) 𝓣) known)
 
 pub advanced-spec : {M : Type 1} → stated.statement M
