@@ -32,13 +32,13 @@ abbrev met : List Rule → List ℕ
 met = map (λ (x : Rule). refusalNumber (x .why))
 
 -- SHEETS
+failed-sheet : (c : Check) (at : Layout) (why : Refusal) → readAs c at ≡ Refused why → c ≡ Failed why
+failed-sheet Passed at why h = let z : _≡_ {A = ℕ} 0 1 = cc in absurd (omega arith)
+failed-sheet (Failed other) at why h = cc
+
 module _ (s : List ℕ) where
   pub sheet-meets : met (sheetRules s (layoutOf s)) ≡ 20 ∷ 21 ∷ 22 ∷ 23 ∷ 24 ∷ []
   sheet-meets = refl
-
-  failed-sheet : (c : Check) (at : Layout) (why : Refusal) → readAs c at ≡ Refused why → c ≡ Failed why
-  failed-sheet Passed at why h = let z : _≡_ {A = ℕ} 0 1 = cc in absurd (omega arith)
-  failed-sheet (Failed other) at why h = cc
 
   pub sheet-refused : (why : Refusal) → (sheetOf s ≡ Refused why) ↔ Broken (sheetRules s (layoutOf s)) why
   unfolding sheetOf
@@ -47,13 +47,13 @@ module _ (s : List ℕ) where
       (λ h. lowest rs why (failed-sheet (check rs) (layoutOf s) why h), λ b. ap (λ (c : Check). readAs c (layoutOf s)) (given b))
 
 -- THE WRITER
+failed-writer : (c : Check) (size : ℕ) (why : Refusal) → writtenAs c size ≡ NotWritten why → c ≡ Failed why
+failed-writer Passed size why h = let z : _≡_ {A = ℕ} 0 1 = cc in absurd (omega arith)
+failed-writer (Failed other) size why h = cc
+
 module _ (p n count : ℕ) (values events : List ℕ) (room : ℕ) where
   pub writer-meets : met (writerRules p n count values events room) ≡ 22 ∷ 24 ∷ 25 ∷ []
   writer-meets = refl
-
-  failed-writer : (c : Check) (size : ℕ) (why : Refusal) → writtenAs c size ≡ NotWritten why → c ≡ Failed why
-  failed-writer Passed size why h = let z : _≡_ {A = ℕ} 0 1 = cc in absurd (omega arith)
-  failed-writer (Failed other) size why h = cc
 
   pub writer-refused : (why : Refusal) → (writtenOf p n count values events room ≡ NotWritten why) ↔ Broken (writerRules p n count values events room) why
   unfolding writtenOf

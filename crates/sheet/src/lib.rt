@@ -33,13 +33,13 @@ pub struct Layout {
     pub from: usize,
 }
 
-// A sheet's layout, or the first of 20 to 24.
+// A sheet's layout, or the lowest of 20 to 24 that applies.
 pub enum Sheet {
     Read { at: Layout },
     Refused { why: Refusal },
 }
 
-// The length of the sheet that was written, or the first of 22, 24 and 25.
+// The length of the sheet that was written, or the lowest of 22, 24 and 25 that applies.
 pub enum Written {
     Sheet { length: usize },
     Refused { why: Refusal },
@@ -51,7 +51,7 @@ pub struct Reader<'a> {
     pub next: u16,
 }
 
-// The layout of any bytes, or the first of 20 to 24.
+// Reads any bytes as a sheet.
 pub fn layout_of(s: &[u8]) -> Sheet
     ensures { λ o. ⌜ o ≡ sheetOf (now (s .entry)) ⌝ }
 {
@@ -150,7 +150,7 @@ fn given_fine(p: u8, n: u8, count: u16, values: usize, events: usize) -> bool
         && (values == Machine::FIELDS * (n as usize) && events == EVENT * (count as usize))
 }
 
-// A sheet at the front of the buffer, or the first of 22, 24 and 25 and the buffer as it was.
+// Writes a sheet to the front of the buffer, or leaves the buffer as it was.
 pub fn write(p: u8, n: u8, count: u16, values: &[u16], events: &[u8], out: &mut [u8]) -> Written
     ensures { λ o. ⌜ (o ≡ writtenOf p n count (now (values .entry)) (now (events .entry)) (length (now (out .entry)))) × (now (out .exit) ≡ bufferOf p n count (now (values .entry)) (now (events .entry)) (now (out .entry))) ⌝ }
 {

@@ -84,7 +84,7 @@ pub fn none() -> Tally
     }
 }
 
-// The tally after an SCX's answer: yes is a change made. It has 16 bits and a sheet at most 5,000 events, so no number wraps.
+// The tally after an SCX's answer: yes is a change made. A number of it has 16 bits and a sheet at most 5,000 events, so none wraps.
 fn scx_counted(t: Tally, answer: Answer) -> Tally
     ensures { λ o. ⌜ o ≡ countedOf t (record { operation = Scx; answer = answer }) ⌝ }
 {
