@@ -25,7 +25,7 @@ unfolding freshRecords
 fresh-more k values l = fill-more 32 (freshRecord values) emptyRecord k l
 
 -- both of two tests
-and-is : (a b : Bool) → pick a b false ≡ true → (a ≡ true) × (b ≡ true)
+pub and-is : (a b : Bool) → pick a b false ≡ true → (a ≡ true) × (b ≡ true)
 and-is true b e = (refl, e)
 and-is false b e = absurd (false≢true e)
 

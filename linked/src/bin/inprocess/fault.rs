@@ -2,7 +2,7 @@
 
 use crate::check::{Library, Right};
 use second::runner;
-use second::watch::{Broken, Flaw};
+use second::watch::{Broken, Mistake};
 use std::ops::Range;
 
 /// A fault at the boundary: in what is answered, or in which bytes are written.
@@ -10,7 +10,7 @@ use std::ops::Range;
 pub enum Fault {
     None,
     /// A mistake of the machine.
-    Machine(Flaw),
+    Machine(Mistake),
     RefusalNext,
     RefusalAccepted,
     RefusalOfRight,
@@ -48,7 +48,7 @@ impl Fault {
 
     /// Every fault with its name: those of the machine, then those of the boundary.
     pub fn all() -> Vec<(Fault, &'static str)> {
-        Flaw::ALL.map(|(flaw, name)| (Fault::Machine(flaw), name)).into_iter().chain(Fault::BOUNDARY).collect()
+        Mistake::ALL.map(|(mistake, name)| (Fault::Machine(mistake), name)).into_iter().chain(Fault::BOUNDARY).collect()
     }
 }
 
@@ -84,8 +84,8 @@ impl Library for StandIn<'_> {
         }
         let broken;
         let text = match self.0 {
-            Fault::Machine(flaw) => {
-                broken = runner::run(sheet, &mut Broken(flaw));
+            Fault::Machine(mistake) => {
+                broken = runner::run(sheet, &mut Broken(mistake));
                 broken.as_bytes()
             }
             Fault::LastByte => &self.1.text.as_bytes()[..self.1.text.len() - 1],
