@@ -1,2 +1,3 @@
+-- The modules of specs/, each after those that it uses.
 pub mod Back
 pub mod Example

@@ -1,1 +1,2 @@
+-- The module of specs/.
 pub mod Bounds

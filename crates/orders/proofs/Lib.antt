@@ -1,3 +1,4 @@
+-- The modules of proofs/, each after those that it uses.
 pub mod Stored
 pub mod View
 pub mod Number
@@ -15,9 +16,9 @@ pub mod FromFresh
 pub mod Changes
 pub mod Effects
 pub mod Ways
+pub mod Busy
 pub mod Snaps
 pub mod Untouched
-pub mod Busy
 pub mod Working
 pub mod Verdicts
 pub mod Holders

@@ -1,1 +1,2 @@
+-- The module of proofs/ beside the proofs of the functions.
 pub mod Glue

@@ -1,2 +1,3 @@
+-- The modules of proofs/, each after those that it uses.
 pub mod Example
 pub mod Demand

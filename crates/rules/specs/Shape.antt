@@ -1,5 +1,5 @@
 -- THE SHAPE: document 01's sentence, its phrases above what renders them. What no line names is ignored: entries beyond the counts,
--- the info and cells of a link that is none or dropped, list or cells that the task's place does not use, and entry 0 of the changes.
+-- the info and cells of a link that is none, list or cells that the task's place does not use, and entry 0 of the changes.
 use Prim.Native.Nat.{ℕ, suc}
 use mathlib.Core.Bool.{Bool, false, not}
 use mathlib.Core.List.{List}

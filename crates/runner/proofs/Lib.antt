@@ -1,3 +1,4 @@
+-- The modules of proofs/ beside the proofs of the functions, each after those that it uses.
 pub mod Same
 pub mod Glue
 pub mod Room

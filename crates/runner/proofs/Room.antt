@@ -3,7 +3,7 @@ use Prim.Native.Nat.{ℕ, _+_, _≤_, _<_}
 use native.Mathlib.Nat.{le-trans}
 use native.Mathlib.Omega.{arith}
 use mathlib.Core.Bool.{Bool, true, false}
-use mathlib.Core.Path.{_≡_, refl, sym, ap, _∙_}
+use mathlib.Core.Path.{_≡_, refl, ap}
 use mathlib.Core.List.{List, _++_}
 use lib.Dec.{leb, lit≤}
 use lib.ListN.{length, drop, length-append}
@@ -15,7 +15,6 @@ use Rattle.sheet.specs.Layout.{sheetOf}
 use Rattle.sheet.proofs.Laws.{read-inside}
 use Rattle.text.specs.Put.{Put}
 use Rattle.text.proofs.Laws.{whole, reached}
-use Rattle.runner.specs.declared.Ran.{Ran}
 use Rattle.runner.specs.declared.Ran.the-variants.{Text, Short}
 use Rattle.runner.specs.Run.{textAs, textOf, roomAs, ranOf, printedOf}
 

@@ -1,6 +1,7 @@
+-- The modules of proofs/ beside the proofs of the functions, each after those that it uses.
+pub mod Unused
 pub mod Bytes
-pub mod Laws
 pub mod Refusals
 pub mod Stored
-pub mod Unused
 pub mod Writing
+pub mod Laws

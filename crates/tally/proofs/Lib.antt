@@ -1,2 +1,3 @@
+-- The modules of proofs/ beside the proofs of the functions, each after those that it uses.
 pub mod Counting
 pub mod Sham
