@@ -16,7 +16,7 @@ use std::sync::atomic::{AtomicBool, AtomicU64, Ordering::Relaxed};
 use std::thread;
 use std::time::Instant;
 
-const SHEETS: u64 = 20_000;
+const SHEETS: u64 = 100_000;
 const BROKEN_SHEETS: u64 = 2_000;
 const SEED: u64 = 1;
 
