@@ -13,8 +13,9 @@ use Rattle.rules.specs.Refuse.{Rule, check}
 use Rattle.keeps.proofs.Lowest.{Broken, lowest}
 use Rattle.sheet.specs.declared.Layout.{Layout}
 use Rattle.sheet.specs.declared.Sheet.the-variants.{Refused}
-use Rattle.sheet.specs.declared.Written.the-variants.{Refused as NotWritten}
-use Rattle.sheet.specs.Layout.{layoutOf, sheetRules, readAs, sheetOf, sheetSize, writerRules, writtenAs, writtenOf}
+use Rattle.writer.specs.declared.Written.the-variants.{Refused as NotWritten}
+use Rattle.sheet.specs.Layout.{layoutOf, sheetRules, readAs, sheetOf}
+use Rattle.writer.specs.Write.{sheetSize, writerRules, writtenAs, writtenOf}
 use Rattle.sheet.proofs.Laws.{kept-on}
 
 -- a rule that is broken behind rules that are kept is the one that fails

@@ -8,8 +8,10 @@ use Rattle.table.specs.Table.{tabulate}
 use Rattle.rules.specs.Words.{SheetSize, SheetTag, Counts, Distance, EventKind, BufferShort}
 use Rattle.rules.specs.Claim.{both, allBelow}
 use Rattle.sheet.specs.declared.Sheet.the-variants.{Read, Refused}
-use Rattle.sheet.specs.declared.Written.the-variants.{Sheet as WrittenSheet, Refused as NotWritten}
-use Rattle.sheet.specs.Layout.{uses, callOf, eventFine, eventAt, eventsFine, layoutOf, eventsPart, valuesPart, sheetOf, numbers, partsOf, valueBytes, sheetBytes, writtenOf, bufferOf}
+use Rattle.writer.specs.declared.Written.the-variants.{Sheet as WrittenSheet, Refused as NotWritten}
+use Rattle.event.specs.Event.{uses, callOf, eventFine, eventAt, eventsFine}
+use Rattle.sheet.specs.Layout.{layoutOf, eventsPart, valuesPart, sheetOf, numbers, partsOf}
+use Rattle.writer.specs.Write.{valueBytes, sheetBytes, writtenOf, bufferOf}
 use Rattle.back.specs.Example.{exampleValues, exampleEvents, exampleBytes, exampleCalls}
 
 example-size : length exampleBytes ≡ 196

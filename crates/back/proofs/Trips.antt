@@ -12,12 +12,16 @@ use Rattle.table.proofs.Tabulate.{length-tabulate, getD-tabulate}
 use Rattle.rules.proofs.Exact.{told, passes}
 use Rattle.sheet.specs.declared.Layout.{Layout}
 use Rattle.sheet.specs.declared.Sheet.the-variants.{Read}
-use Rattle.sheet.specs.declared.Written.the-variants.{Sheet as WrittenSheet}
-use Rattle.sheet.specs.Layout.{byte, pair, lowFirst, trailer, distance, layoutOf, valuesPart, eventsPart, partsSize, sheetSize, sheetOf}
-use Rattle.sheet.specs.Layout.{sizeFine, tagFine, countsFine, distanceFine, givenFine, numbers, Parts, partsOf, valueBytes, trailerBytes, sheetBytes, bytesOf}
-use Rattle.sheet.proofs.Stored.{length-value-bytes}
-use Rattle.sheet.proofs.Writing.{GivenSizes, given-sizes, sheet-length}
-use Rattle.sheet.proofs.Laws.{Kept, read-kept, kept-read, Inside, read-inside, Accepts, written-accepts, accepts-written, accepts-buffer}
+use Rattle.writer.specs.declared.Written.the-variants.{Sheet as WrittenSheet}
+use Rattle.event.specs.Event.{byte, pair}
+use Rattle.sheet.specs.Layout.{trailer, distance, layoutOf, valuesPart, eventsPart, partsSize, sheetOf}
+use Rattle.writer.specs.Write.{lowFirst, sheetSize}
+use Rattle.sheet.specs.Layout.{sizeFine, tagFine, countsFine, distanceFine, numbers, Parts, partsOf}
+use Rattle.writer.specs.Write.{givenFine, valueBytes, trailerBytes, sheetBytes, bytesOf}
+use Rattle.writer.proofs.Stored.{length-value-bytes}
+use Rattle.writer.proofs.Writing.{GivenSizes, given-sizes, sheet-length}
+use Rattle.sheet.proofs.Laws.{Kept, read-kept, kept-read, Inside, read-inside}
+use Rattle.writer.proofs.Laws.{Accepts, written-accepts, accepts-written, accepts-buffer}
 use Rattle.back.specs.Back.{AllBelow, writes, leaves, over, WrittenThenRead, ReadThenWritten, Writing, Reading}
 use Rattle.back.proofs.Values.{two-bytes, values-back, bytes-back, low-first}
 use Rattle.back.proofs.Heading.{heading}

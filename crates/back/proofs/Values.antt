@@ -5,7 +5,9 @@ use mathlib.Core.Path.{_≡_, refl, ap, ap₂, fun-ext, _∙_}
 use mathlib.Core.List.{List, [], _∷_, _++_}
 use lib.ListN.{length}
 use Rattle.table.specs.Table.{tabulate}
-use Rattle.sheet.specs.Layout.{pair, lowFirst, numbers, valueBytes}
+use Rattle.event.specs.Event.{pair}
+use Rattle.sheet.specs.Layout.{numbers}
+use Rattle.writer.specs.Write.{lowFirst, valueBytes}
 use Rattle.back.specs.Back.{AllBelow}
 
 -- two positions on, in two lists of which one has two more in front

@@ -9,9 +9,10 @@ use lib.ListN.{getD, length, take, drop}
 use Rattle.table.specs.Table.{maxFields}
 use Rattle.sheet.specs.declared.Layout.{Layout}
 use Rattle.sheet.specs.declared.Sheet.the-variants.{Read}
-use Rattle.sheet.specs.declared.Written.{Written}
-use Rattle.sheet.specs.declared.Written.the-variants.{Sheet as WrittenSheet}
-use Rattle.sheet.specs.Layout.{Parts, valuesPart, eventsPart, valuesIn, sheetOf, partsOf, bytesOf, writtenOf, bufferOf, maxSheet}
+use Rattle.writer.specs.declared.Written.{Written}
+use Rattle.writer.specs.declared.Written.the-variants.{Sheet as WrittenSheet}
+use Rattle.sheet.specs.Layout.{Parts, valuesPart, eventsPart, valuesIn, sheetOf, partsOf, maxSheet}
+use Rattle.writer.specs.Write.{bytesOf, writtenOf, bufferOf}
 
 -- each number of a list is below a bound: 256 for bytes, 65,536 for values
 abbrev pub AllBelow : ℕ → List ℕ → Type 0

@@ -8,10 +8,10 @@ use denote.Triple.Entry.{Args, Res}
 use denote.Triple.Clauses.{Ended, AtExit, Clauses}
 use denote.Ref.{now}
 use borrow.Fn.World.{World}
-use Rattle.sheet.specs.Layout.{eventAt}
-use Rattle.sheet.proofs.at as sheet-at-contract
-use Rattle.sheet.proofs.next_event as sheet-next-event-contract
-use Rattle.sheet.proofs.advanced as sheet-advanced-contract
+use Rattle.event.specs.Event.{eventAt}
+use Rattle.reader.proofs.at as reader-at-contract
+use Rattle.reader.proofs.next_event as reader-next-event-contract
+use Rattle.reader.proofs.advanced as reader-advanced-contract
 use Prim.Native.Nat.{_+_, _%_}
 
 pub record Once (E : Ended) (clauses : (w : World) → Clauses (w .𝓤) E) : Type 2 where
@@ -21,24 +21,24 @@ pub record Once (E : Ended) (clauses : (w : World) → Clauses (w .𝓤) E) : Ty
   pub one : (κs : Lfts (E .signature .lifetimes)) (a : Args (E .signature) κs) (o p : Res (E .signature) κs) (s t : AtExit E κs)
       → claim κs a o s → claim κs a p t → o ≡ p
 
-pub sheet-at : Once sheet-at-contract.ended (λ w. sheet-at-contract.clauses (w .𝓤) (w .H) (w .𝓖 .A) (w .𝓜 .mem) (w .𝓡 .run))
-sheet-at =
+pub reader-at : Once reader-at-contract.ended (λ w. reader-at-contract.clauses (w .𝓤) (w .H) (w .𝓖 .A) (w .𝓜 .mem) (w .𝓡 .run))
+reader-at =
     record {
       claim = λ κs a o s. (o .events ≡ a .0) × (o .next ≡ a .1 .0);
       said = λ w κs a g o s. refl;
       one = λ κs a o p s t e f. λ k. record { events = (e .0 ∙ sym (f .0)) k; next = (e .1 ∙ sym (f .1)) k };
     }
 
-pub sheet-next-event : Once sheet-next-event-contract.ended (λ w. sheet-next-event-contract.clauses (w .𝓤) (w .H) (w .𝓖 .A) (w .𝓜 .mem) (w .𝓡 .run))
-sheet-next-event =
+pub reader-next-event : Once reader-next-event-contract.ended (λ w. reader-next-event-contract.clauses (w .𝓤) (w .H) (w .𝓖 .A) (w .𝓜 .mem) (w .𝓡 .run))
+reader-next-event =
     record {
       claim = λ κs a o s. o ≡ eventAt (now (a .0 .events)) (a .0 .next);
       said = λ w κs a g o s. refl;
       one = λ κs a o p s t e f. e ∙ sym f;
     }
 
-pub sheet-advanced : Once sheet-advanced-contract.ended (λ w. sheet-advanced-contract.clauses (w .𝓤) (w .H) (w .𝓖 .A) (w .𝓜 .mem) (w .𝓡 .run))
-sheet-advanced =
+pub reader-advanced : Once reader-advanced-contract.ended (λ w. reader-advanced-contract.clauses (w .𝓤) (w .H) (w .𝓖 .A) (w .𝓜 .mem) (w .𝓡 .run))
+reader-advanced =
     record {
       claim = λ κs a o s. (o .events ≡ a .0 .events) × (o .next ≡ (a .0 .next + 1) % 65536);
       said = λ w κs a g o s. refl;

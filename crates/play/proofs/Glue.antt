@@ -7,7 +7,7 @@ use lib.ListN.{length}
 use Rattle.rules.specs.Words.{Machine, Call, Answer, Cell, Out}
 use Rattle.table.specs.Table.{taskAt}
 use Rattle.hand.specs.Hand.{turnIn}
-use Rattle.sheet.specs.Layout.{eventAt}
+use Rattle.event.specs.Event.{eventAt}
 use Rattle.tally.specs.declared.Tally.{Tally}
 use Rattle.tally.specs.declared.Operation.{Operation}
 use Rattle.tally.specs.Count.{operationOf, countedOf, tallyOf, firstOf}

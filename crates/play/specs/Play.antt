@@ -6,7 +6,7 @@ use mathlib.Core.List.{List}
 use lib.ListN.{length}
 use Rattle.table.specs.Table.{taskAt}
 use Rattle.rules.specs.Words.{Machine, Out}
-use Rattle.sheet.specs.Layout.{eventAt}
+use Rattle.event.specs.Event.{eventAt}
 use Rattle.hand.specs.Hand.{turnIn}
 use Rattle.tally.specs.declared.Told.{Told}
 use Rattle.tally.specs.Count.{operationOf, tallyOf, firstOf}

@@ -22,7 +22,7 @@ pub fn play(events: &[u8], count: u16, first: Machine, out: &mut [u8]) -> Played
     let mut next: usize = 0;
     let mut i: u16 = 0;
     while i < count {
-        let e = sheet::event(events, i);
+        let e = reader::event(events, i);
         let named = e.list;
         let ask = e.ask;
         let k = e.task as usize % Machine::TASKS;

@@ -9,7 +9,8 @@ use Rattle.orders.specs.Demand.{before, Demand3}
 use Rattle.orders.proofs.Every.{every-order}
 use Rattle.sheet.specs.declared.Layout.{Layout}
 use Rattle.sheet.specs.declared.Sheet.the-variants.{Read}
-use Rattle.sheet.specs.Layout.{eventAt, eventsPart, partsOf, sheetOf}
+use Rattle.event.specs.Event.{eventAt}
+use Rattle.sheet.specs.Layout.{eventsPart, partsOf, sheetOf}
 use Rattle.runner.specs.Run.{machineAt, tableOf}
 use Rattle.runner.proofs.Glue.{ranged}
 

@@ -15,7 +15,8 @@ use Rattle.rules.specs.Shape.{shape, inShape}
 use Rattle.rules.specs.Start.{start}
 use Rattle.rules.specs.Refuse.{linkedAt, rulesOf}
 use Rattle.rules.specs.Next.{refused, started, next}
-use Rattle.sheet.specs.Layout.{uses, callOf, eventFine, eventAt, eventsFine, layoutOf, eventsPart, valuesPart, sheetOf, numbers, partsOf}
+use Rattle.event.specs.Event.{uses, callOf, eventFine, eventAt, eventsFine}
+use Rattle.sheet.specs.Layout.{layoutOf, eventsPart, valuesPart, sheetOf, numbers, partsOf}
 use Rattle.tally.specs.Count.{counts, tallyOf, firstOf}
 use Rattle.text.specs.Text.{lead, digits, joined}
 use Rattle.lines.specs.Lines.{answerLine, recordLine, tallyLine}

@@ -14,7 +14,8 @@ use Rattle.keeps.proofs.Lengths.{Sized, fresh-sized}
 use Rattle.keeps.proofs.Fresh.{fresh-in-shape}
 use Rattle.sheet.specs.declared.Layout.{Layout}
 use Rattle.sheet.specs.declared.Sheet.the-variants.{Read}
-use Rattle.sheet.specs.Layout.{pair, numbers, valuesIn, valuesPart, eventsPart, partsOf, sheetOf}
+use Rattle.event.specs.Event.{pair}
+use Rattle.sheet.specs.Layout.{numbers, valuesIn, valuesPart, eventsPart, partsOf, sheetOf}
 use Rattle.sheet.proofs.Laws.{read-inside, take-values}
 use Rattle.tally.specs.declared.Tally.{Tally}
 use Rattle.tally.specs.Count.{tallyOf, firstOf}

@@ -19,7 +19,7 @@ use Rattle.keeps.proofs.Kept.{kept-test}
 use Rattle.keeps.proofs.Bounds.{p≤8}
 use Rattle.exact.proofs.Turn.{in-shape}
 use Rattle.exact.proofs.Hand.{turn-is}
-use Rattle.sheet.specs.Layout.{eventAt}
+use Rattle.event.specs.Event.{eventAt}
 use Rattle.hand.specs.Hand.{turnIn}
 use Rattle.tally.specs.declared.Tally.{Tally}
 use Rattle.tally.specs.declared.Operation.{Operation}

@@ -11,7 +11,8 @@ use Rattle.rules.specs.Next.{next}
 use Rattle.sheet.specs.declared.Layout.{Layout}
 use Rattle.sheet.specs.declared.Sheet.{Sheet}
 use Rattle.sheet.specs.declared.Sheet.the-variants.{Read, Refused}
-use Rattle.sheet.specs.Layout.{eventAt, eventsPart, partsOf, sheetOf}
+use Rattle.event.specs.Event.{eventAt}
+use Rattle.sheet.specs.Layout.{eventsPart, partsOf, sheetOf}
 use Rattle.tally.specs.declared.Told.{Told}
 use Rattle.tally.specs.Count.{operationOf, tallyOf, firstOf}
 use Rattle.text.specs.Text.{joined}

@@ -61,7 +61,7 @@ fn put_run(s: &[u8], at: Layout, out: &mut [u8]) -> usize
 {
     let first = table_of(s, at);
     let from = at.from + sheet::RECORD * at.n as usize;
-    let end = from + sheet::EVENT * at.count as usize;
+    let end = from + event::EVENT * at.count as usize;
     let played = play::play(&s[from..end], at.count, first, out);
     let m = played.m;
     let tally = played.tally;

@@ -1,30 +1,26 @@
--- What callers know of a sheet that was read: its tests were kept, and its parts lie inside it. And when the writer accepts.
+-- What callers know of a sheet that was read: its tests were kept, and its parts lie inside it.
 use Prim.Native.Nat.{ℕ, _+_, _-_, _*_, _≤_, _<_}
 use native.Mathlib.Omega.{arith}
 use mathlib.Core.Path.{_≡_, refl, sym, _∙_}
 use mathlib.Core.Bool.{Bool, true, false}
-use mathlib.Core.List.{List, _++_}
-use lib.ListN.{length, take, drop}
+use mathlib.Core.List.{List}
+use lib.ListN.{length, take}
 use lib.Seq.{ext-getD, getD-take, length-take-le}
 use Rattle.table.specs.Table.{pick, tabulate}
 use Rattle.table.proofs.Tabulate.{length-tabulate, getD-tabulate}
-use Rattle.rules.specs.Words.{Refusal, SheetSize, SheetTag, Counts, Distance, EventKind, BufferShort, Check, Passed, Failed}
-use Rattle.rules.specs.Claim.{test}
+use Rattle.rules.specs.Words.{Refusal, SheetSize, SheetTag, Counts, Distance, EventKind, Check, Passed, Failed}
 use Rattle.rules.specs.Refuse.{check}
-use Rattle.rules.proofs.Exact.{told, passes}
+use Rattle.rules.proofs.Exact.{told}
+use Rattle.event.specs.Event.{pair}
 use Rattle.sheet.specs.declared.Layout.{Layout}
 use Rattle.sheet.specs.declared.Sheet.the-variants.{Read}
-use Rattle.sheet.specs.declared.Written.the-variants.{Sheet as WrittenSheet}
-use Rattle.sheet.specs.Layout.{pair, layoutOf, eventsFine, sizeFine, countsFine, readAs, sheetRules, sheetOf, numbers, valuesIn, upTo, sheetSize, sheetBytes, writerRules, writtenAs, writtenOf, bufferOf}
+use Rattle.sheet.specs.Layout.{layoutOf, sizeFine, countsFine, readAs, sheetRules, sheetOf, numbers, valuesIn}
 use Rattle.sheet.proofs.Refusals.{size, tag, counts, back, events, accepted, filled, long-enough}
-use Rattle.sheet.proofs.Writing.{given}
 
 -- a test that does not stop the check was passed
 pub kept-on : (b : Bool) (c : Check) (why : Refusal) → pick b c (Failed why) ≡ Passed → (b ≡ true) × (c ≡ Passed)
 kept-on true c why h = (refl, h)
 kept-on false c why h = let z : _≡_ {A = ℕ} 0 1 = cc in absurd (omega arith)
-
--- A SHEET THAT WAS READ
 
 -- the five tests
 pub record Kept (s : List ℕ) (at : Layout) : Type 0 where
@@ -96,41 +92,3 @@ take-values part k l =
     let e : length (take k (tabulate 128 f)) ≡ k = length-take-le k (tabulate 128 f) (rw length-tabulate l) in
     ext-getD 0 (take k (tabulate 128 f)) (tabulate k f) (e ∙ sym (length-tabulate k f))
     (λ i q. let h : i < k = rw e at q in getD-take k (tabulate 128 f) i 0 h ∙ getD-tabulate 128 f i 0 (omega arith) ∙ sym (getD-tabulate k f i 0 h))
-
--- WHAT THE WRITER ACCEPTS
-
-pub record Accepts (p n count : ℕ) (values events : List ℕ) (room : ℕ) : Type 0 where
-  pub given-kept : given p n count values events ≡ true
-  pub events-kept : eventsFine events count ≡ true
-  pub fits : sheetSize n count ≤ room
-
-module _ {p n count : ℕ} {values events : List ℕ} where
-  pub written-accepts : {room size : ℕ} → writtenOf p n count values events room ≡ WrittenSheet size → Accepts p n count values events room
-  unfolding writtenOf
-  written-accepts {room} {size} e = rest (go (check (writerRules p n count values events room)) e)
-    where
-      go : (c : Check) → writtenAs c (sheetSize n count) ≡ WrittenSheet size → c ≡ Passed
-      go Passed h = refl
-      go (Failed why) h = let z : _≡_ {A = ℕ} 0 1 = cc in absurd (omega arith)
-
-      rest : check (writerRules p n count values events room) ≡ Passed → Accepts p n count values events room
-      rest c =
-          let k22 = kept-on (given p n count values events) _ Counts c in
-          let k24 = kept-on (eventsFine events count) _ EventKind (k22 .1) in
-          let k25 = kept-on (test 0 (upTo room (sheetSize n count))) _ BufferShort (k24 .1) in
-          record {
-            given-kept = k22 .0;
-            events-kept = k24 .0;
-            fits = omega (arith, told 0 (upTo room (sheetSize n count)) (k25 .0));
-          }
-
-  pub accepts-written : {room : ℕ} → Accepts p n count values events room → writtenOf p n count values events room ≡ WrittenSheet (sheetSize n count)
-  unfolding writtenOf
-  accepts-written {room} a =
-      rw (a .given-kept, a .events-kept, passes 0 (upTo room (sheetSize n count)) (omega (arith, a .fits))) refl
-
-  pub accepts-buffer : (old : List ℕ) → Accepts p n count values events (length old)
-      → bufferOf p n count values events old ≡ sheetBytes p n count values events ++ drop (length (sheetBytes p n count values events)) old
-  unfolding bufferOf
-  accepts-buffer old a =
-      rw (a .given-kept, a .events-kept, passes 0 (upTo (length old) (sheetSize n count)) (omega (arith, a .fits))) refl

@@ -10,9 +10,10 @@ use Rattle.table.specs.Table.{tabulate}
 use Rattle.rules.specs.Words.{SheetSize, SheetTag, Counts, Distance, EventKind}
 use Rattle.rules.specs.Claim.{test}
 use Rattle.rules.proofs.Exact.{told}
+use Rattle.event.specs.Event.{byte, eventsFine}
 use Rattle.sheet.specs.declared.Layout.{Layout}
 use Rattle.sheet.specs.declared.Sheet.the-variants.{Read, Refused}
-use Rattle.sheet.specs.Layout.{byte, trailer, distance, layoutBy, layoutOf, eventsPart, eventsFine, sizeFine, tagFine, countsFine, distanceFine, sheetOf}
+use Rattle.sheet.specs.Layout.{trailer, distance, layoutBy, layoutOf, eventsPart, sizeFine, tagFine, countsFine, distanceFine, sheetOf}
 
 -- the four tests before the events, and the events'
 abbrev pub size : List ℕ → Bool

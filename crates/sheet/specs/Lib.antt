@@ -1,3 +1,2 @@
 -- The modules of specs/, each after those that it uses.
 pub mod Layout
-pub mod Event

@@ -4,26 +4,22 @@ ghost use Prim.Native.Nat.{_+_, _-_, _*_, _≤_};
 ghost use lib.ListN.{length};
 ghost use Rattle.table.specs.Table.{tabulate};
 ghost use Rattle.rules.specs.Claim.{test};
-ghost use Rattle.sheet.specs.Layout.{byte, trailer, layoutBy, partsSize, trailerBytes};
+ghost use Rattle.event.specs.Event.{byte};
+ghost use Rattle.sheet.specs.Layout.{trailer, layoutBy};
 ghost use Rattle.sheet.specs.Layout as spec;
-use crate::EVENT;
+use crate::FIRST_TAG;
 use crate::Layout;
-use crate::RECORD;
-use crate::events::pair;
-use table::Machine;
+use crate::SECOND_TAG;
+use crate::TRAILER;
+use crate::parts_size;
+use event::pair;
 
-// The bytes of a trailer, and the most that a sheet has.
-pub(crate) const TRAILER: usize = 8;
-
+// The most bytes that a sheet has.
 const MOST_BYTES: usize = 65_000;
-
-const FIRST_TAG: u8 = 0x52;
-
-const SECOND_TAG: u8 = 0x53;
 
 pub(crate) type Trailer = [u8; TRAILER];
 
-fn up_to(most: usize, k: usize) -> bool
+pub(crate) fn up_to(most: usize, k: usize) -> bool
     ensures { λ o. ⌜ o ≡ test 0 (spec.upTo most k) ⌝ }
 {
     k <= most
@@ -61,21 +57,6 @@ pub(crate) fn tag_fine(t: Trailer) -> bool
     t[0] == FIRST_TAG && t[1] == SECOND_TAG
 }
 
-// Where this fails, refusal 22 is given.
-pub(crate) fn counts_fine(p: u8, n: u8, count: u16) -> bool
-    ensures { λ o. ⌜ o ≡ test 0 (spec.countsFine p n count) ⌝ }
-{
-    lists::within(Machine::TASKS, p)
-        && (lists::within(Machine::RECORDS, n) && up_to(Machine::EVENTS, count as usize))
-}
-
-// The bytes between the heading and the trailer.
-pub(crate) fn parts_size(n: u8, count: u16) -> usize
-    ensures { λ o. ⌜ (o ≡ partsSize n count) × (o ≤ 788460) ⌝ }
-{
-    RECORD * (n as usize) + EVENT * (count as usize)
-}
-
 // The distance back from the trailer, which starts at `end`. Where this fails, refusal 23 is given.
 pub(crate) fn distance_fine(distance: u16, n: u8, count: u16, end: usize) -> bool
     ensures { λ o. ⌜ o ≡ test 0 (spec.distanceFine distance n count end) ⌝ }
@@ -109,21 +90,4 @@ pub(crate) fn layout_by(t: Trailer, size: usize) -> Layout
         count: pair(t[4], t[5]),
         from: minus(end, distance(t) as usize),
     }
-}
-
-// The trailer to be written.
-pub(crate) fn trailer_bytes(p: u8, n: u8, count: u16) -> Trailer
-    ensures { λ o. ⌜ o ≡ trailerBytes p n count ⌝ }
-{
-    let d = parts_size(n, count);
-    [
-        FIRST_TAG,
-        SECOND_TAG,
-        p,
-        n,
-        (count % 256) as u8,
-        (count / 256 % 256) as u8,
-        (d % 256) as u8,
-        (d / 256 % 256) as u8,
-    ]
 }

@@ -6,7 +6,8 @@ use lib.Dec.{ltb}
 use borrow.Author.Needs.{needs}
 use Rattle.table.specs.Table.{pick, tabulate}
 use Rattle.table.proofs.Tabulate.{fill-more}
-use Rattle.sheet.specs.Layout.{pair, numbers, valuesIn}
+use Rattle.event.specs.Event.{pair}
+use Rattle.sheet.specs.Layout.{numbers, valuesIn}
 use Rattle.sheet.proofs.values.Statement.{statement}
 use Rattle.sheet.proofs.values.Tie as tie
 

@@ -1,10 +1,22 @@
 -- `sheet::trailer::trailer`: the last eight bytes.
-use Prim.Native.Nat.{_-_}
-use lib.ListN.{length}
-use Rattle.sheet.proofs.Bytes.{eight}
+use Prim.Native.Nat.{ℕ, _+_, _-_}
+use native.Mathlib.Nat.{add-zero}
+use mathlib.Core.Path.{_≡_}
+use mathlib.Core.List.{List, [], _∷_}
+use lib.ListN.{length, drop}
+use lib.Seq.{getD-drop}
+use Rattle.table.specs.Table.{tabulate}
+use Rattle.event.specs.Event.{byte}
 use borrow.Author.Needs.{needs}
 use Rattle.sheet.proofs.trailer.trailer.Statement.{statement}
 use Rattle.sheet.proofs.trailer.trailer.Tie as tie
+
+eight : (s : List ℕ) (j : ℕ)
+    → _≡_ {A = List ℕ}
+    (byte s j ∷ byte s (j + 1) ∷ byte s (j + 2) ∷ byte s (j + 3) ∷ byte s (j + 4) ∷ byte s (j + 5) ∷ byte s (j + 6) ∷ byte s (j + 7) ∷ [])
+    (tabulate 8 (byte (drop j s)))
+unfolding tabulate
+eight s j = simp (getD-drop, add-zero)
 
 sub-j : tie.Need-sub-j
 sub-j c = search needs

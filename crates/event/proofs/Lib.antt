@@ -1,0 +1,3 @@
+-- The modules of proofs/ beside the proofs of the functions, each after those that it uses.
+pub mod Unused
+pub mod Bytes

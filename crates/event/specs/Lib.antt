@@ -1,0 +1,3 @@
+-- The modules of specs/, each after those that it uses.
+pub mod Event
+pub mod Twelve

@@ -1,0 +1,4 @@
+-- The modules of proofs/ beside the proofs of the functions, each after those that it uses.
+pub mod Stored
+pub mod Writing
+pub mod Laws

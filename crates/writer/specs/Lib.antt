@@ -1,0 +1,2 @@
+-- The modules of specs/, each after those that it uses.
+pub mod Write
