@@ -6,7 +6,8 @@ use mathlib.Core.List.{List, [], _∷_}
 use lib.ListN.{getD, set, List·getD-map}
 use Rattle.rules.specs.Words.{Link, Machine, Access, Call, Out}
 use Rattle.table.specs.Table.{noLink, changeAt, taskAt, slot}
-use Rattle.rules.specs.Access.{accessOf, recordOf}
+use Rattle.rules.specs.Access.{accessOf}
+use Rattle.rules.specs.Perform.{recordOf}
 use Rattle.rules.specs.Step.{dropped, dropFirst}
 use Rattle.hand.specs.declared.Turned.{Turned}
 use Rattle.hand.specs.Hand.{clip, linksOf, numberOf, turnOf, handBy, putTurn, turnIn}

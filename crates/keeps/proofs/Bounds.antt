@@ -7,8 +7,7 @@ use Rattle.keeps.proofs.Fine.{fine}
 use Rattle.keeps.proofs.Acts.{acts}
 use Rattle.keeps.proofs.Moves.{MoveFine, moves}
 use Rattle.table.specs.Table.{taskAt, linkAt}
-use Rattle.rules.specs.Access.{recordOf}
-use Rattle.rules.specs.Perform.{seen}
+use Rattle.rules.specs.Perform.{recordOf, seen}
 use Rattle.rules.specs.Step.{accessAt, moveAt}
 use Rattle.rules.specs.Shape.{InShape}
 

@@ -10,8 +10,7 @@ use lib.Seq.{getD-set-other}
 use Rattle.rules.specs.Words.{Change, Machine, Ask, AskLlx, AskScx, AskVlx, AskRead, AskStep, Access, Call, Check, Passed, Failed}
 use Rattle.keeps.proofs.Stores.{any}
 use Rattle.table.specs.Table.{noChange, changeAt}
-use Rattle.rules.specs.Access.{changeIn}
-use Rattle.rules.specs.Perform.{changeBy, perform}
+use Rattle.rules.specs.Perform.{changeIn, changeBy, perform}
 use Rattle.rules.specs.Step.{settle, accessAt, step}
 use Rattle.rules.specs.Start.{filled, start}
 use Rattle.rules.specs.Refuse.{check, rulesOf}

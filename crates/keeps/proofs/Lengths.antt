@@ -14,8 +14,7 @@ use Rattle.keeps.proofs.Frame.{put}
 use Rattle.table.specs.Table.{pick, noRecord, noTask, cellAt, recordAt, taskAt, slot, sameCell}
 use Rattle.table.specs.Fresh.{freshRecord, emptyRecord, freshRecords, emptyChange, idleTask, emptyLink, freshMachine, inRange, fresh}
 use Rattle.table.proofs.Tabulate.{length-tabulate, getD-tabulate}
-use Rattle.rules.specs.Access.{recordOf}
-use Rattle.rules.specs.Perform.{cellsBy, recordBy, perform}
+use Rattle.rules.specs.Perform.{touch, recordOf, recordBy, perform}
 use Rattle.rules.specs.Step.{dropFirst, settle, accessAt, step}
 use Rattle.rules.specs.Start.{start}
 use Rattle.rules.specs.Refuse.{check, rulesOf}
@@ -50,7 +49,7 @@ fresh-sized p n values e =
     })
 
 -- an access and a drop keep the lengths
-same-cells : (a : Access) (cs : List Cell) → length (cellsBy a cs) ≡ length cs
+same-cells : (a : Access) (cs : List Cell) → length (touch a .cells cs) ≡ length cs
 same-cells Nothing cs = refl
 same-cells (ReadMark r) cs = refl
 same-cells (ReadInfo r) cs = refl

@@ -11,8 +11,7 @@ use borrow.Author.Tests.{ne-eqb}
 use Rattle.rules.specs.Words.{Cell, Record, InProgress, Change}
 use Rattle.rules.specs.Words.{Access, Hold, Close, Write, Freeze, Abort, Commit}
 use Rattle.table.specs.Table.{pick, noCell, noRecord, noChange, cellAt, stateOf, sameCell}
-use Rattle.rules.specs.Access.{recordOf, changeIn}
-use Rattle.rules.specs.Perform.{recordBy, changeBy}
+use Rattle.rules.specs.Perform.{recordOf, changeIn, recordBy, changeBy}
 use Rattle.clauses.proofs.Updates.{upd, at}
 use Rattle.clauses.proofs.Memory.{Shared, nop, hold, abort, freeze, close, write, commit, make, apply}
 use Rattle.clauses.proofs.Steps.{termsOf, is-stored, is-old}

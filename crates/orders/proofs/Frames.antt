@@ -13,8 +13,7 @@ use lib.Dec.{ltb}
 use borrow.Author.Tests.{ltb-true}
 use Rattle.rules.specs.Words.{Task, Link, Machine, Ask, AskLlx, AskScx, AskVlx, AskRead, AskStep, Call, Check, Passed, Failed}
 use Rattle.table.specs.Table.{pick, noTask, noLink, taskAt, linkAt, slot}
-use Rattle.rules.specs.Access.{recordOf}
-use Rattle.rules.specs.Perform.{seen, perform}
+use Rattle.rules.specs.Perform.{recordOf, seen, perform}
 use Rattle.rules.specs.Step.{linkBy, dropFirst, settle, accessAt, moveAt, step}
 use Rattle.rules.specs.Start.{start}
 use Rattle.rules.specs.Refuse.{check, rulesOf}

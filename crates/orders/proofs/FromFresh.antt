@@ -16,8 +16,7 @@ use Rattle.rules.specs.Words.{Machine, Record, Task, Link, Idle, AskLlx, AskScx
 use Rattle.table.specs.Table.{pick, noCells, maxRecords, noRecord, noTask, noLink, taskAt, slot}
 use Rattle.table.proofs.Tabulate.{getD-tabulate}
 use Rattle.table.specs.Fresh.{idleTask, freshRecord, emptyRecord, emptyLink, freshRecords, freshMachine, inRange, fresh}
-use Rattle.rules.specs.Perform.{perform}
-use Rattle.rules.specs.Access.{recordOf}
+use Rattle.rules.specs.Perform.{perform, recordOf}
 use Rattle.rules.specs.Step.{settle, accessAt, moveAt, step}
 use Rattle.rules.specs.Start.{start}
 use Rattle.rules.specs.Shape.{shape, inShape, InShape}

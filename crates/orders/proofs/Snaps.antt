@@ -10,7 +10,7 @@ use Rattle.rules.specs.Words.{Place, Idle, L1}
 use Rattle.rules.specs.Words.{Ask, AskLlx, AskScx, AskVlx, AskRead, AskStep, Call, Check, Passed, Failed}
 use Rattle.rules.specs.Words.{Snapshot}
 use Rattle.table.specs.Table.{cellAt, taskAt}
-use Rattle.rules.specs.Access.{recordOf}
+use Rattle.rules.specs.Perform.{recordOf}
 use Rattle.rules.specs.Step.{accessAt, moveAt, step}
 use Rattle.rules.specs.Refuse.{isIdle, check, rulesOf}
 use Rattle.rules.specs.Next.{refused, started, accepted, answered, next}

@@ -7,7 +7,7 @@ use lib.Dec.{ltb}
 use Rattle.rules.specs.Words.{Place, L1, H1, Own, Vlx, Read}
 use Rattle.rules.specs.Words.{Record, Task, Link, Machine, Ask, AskLlx, AskScx, AskVlx, AskRead, AskStep, Call, Check, Passed, Failed}
 use Rattle.table.specs.Table.{pick, noRecord, noTask, noLink, taskAt, linkAt}
-use Rattle.rules.specs.Access.{recordOf}
+use Rattle.rules.specs.Perform.{recordOf}
 use Rattle.rules.specs.Step.{accessAt, moveAt}
 use Rattle.rules.specs.Start.{filled}
 use Rattle.rules.specs.Refuse.{check, rulesOf}

@@ -7,7 +7,6 @@ use lib.Dec.{eqb}
 use Rattle.rules.specs.Words.{Cell, Record, State, InProgress, Committed, Aborted, Change, Machine, Seen}
 use Rattle.rules.specs.Words.{Access, Nothing, ReadMark, ReadInfo, ReadCell, ReadState, ReadFrozen, Hold, Close, Write, Freeze, Abort, Commit}
 use Rattle.table.specs.Table.{pick, noCell, cellAt, recordAt, changeAt, stateOf, sameCell}
-use Rattle.rules.specs.Access.{recordOf, changeIn}
 
 abbrev pub sawNothing : Seen
 sawNothing = record { bit = false; number = 0; cell = noCell; state = InProgress }
@@ -24,95 +23,57 @@ sawCell c = record { bit = false; number = 0; cell = c; state = InProgress }
 abbrev pub sawState : State → Seen
 sawState s = record { bit = false; number = 0; cell = noCell; state = s }
 
--- what an access sees of the record x and the change ch that it touches; a Hold sees whether it took hold
+-- WHAT AN ACCESS DOES: the record and the change whose words it touches, 0 where it touches none; what it sees of them; and what it makes
+-- of the words of a record, cells, mark and info, and of those of a change, state and allFrozen
+pub record Touch : Type 0 where
+  pub touched : ℕ
+  pub change : ℕ
+  pub sees : Record → Change → Seen
+  pub cells : List Cell → List Cell
+  pub mark : Bool → Bool
+  pub info : ℕ → ℕ
+  pub state : State → State
+  pub frozen : Bool → Bool
+
+-- a read leaves all as it was; the words of a record, or of a change, are set
+abbrev pub reads : ℕ → ℕ → (Record → Change → Seen) → Touch
+reads r u sees =
+    record { touched = r; change = u; sees = sees; cells = λ cs. cs; mark = λ b. b; info = λ i. i; state = λ s. s; frozen = λ b. b }
+
+abbrev pub sets : ℕ → (Record → Seen) → (List Cell → List Cell) → (Bool → Bool) → (ℕ → ℕ) → Touch
+sets r sees cells mark info =
+    record { touched = r; change = 0; sees = λ x ch. sees x; cells = cells; mark = mark; info = info; state = λ s. s; frozen = λ b. b }
+
+abbrev pub turns : ℕ → (State → State) → (Bool → Bool) → Touch
+turns u state frozen =
+    record { touched = 0; change = u; sees = λ x ch. sawNothing; cells = λ cs. cs; mark = λ b. b; info = λ i. i; state = state; frozen = frozen }
+
+abbrev pub touch : Access → Touch
+touch Nothing = reads 0 0 (λ x ch. sawNothing)
+touch (ReadMark r) = reads r 0 (λ x ch. sawBit (x .mark))
+touch (ReadInfo r) = reads r 0 (λ x ch. sawNumber (x .info))
+touch (ReadCell r f) = reads r 0 (λ x ch. sawCell (cellAt (x .cells) f))
+touch (ReadState u) = reads 0 u (λ x ch. sawState (stateOf u ch))
+touch (ReadFrozen u) = reads 0 u (λ x ch. sawBit (ch .frozen))
+-- a Hold sees whether it took hold
+touch (Hold r want u) = sets r (λ x. sawBit (eqb (x .info) want)) (λ cs. cs) (λ b. b) (λ i. pick (eqb i want) u i)
+touch (Close r) = sets r (λ x. sawNothing) (λ cs. cs) (λ b. true) (λ i. i)
+touch (Write r f old new) = sets r (λ x. sawNothing) (λ cs. pick (sameCell (cellAt cs f) old) (set cs f new) cs) (λ b. b) (λ i. i)
+touch (Freeze u) = turns u (λ s. s) (λ b. true)
+touch (Abort u) = turns u (λ s. Aborted) (λ b. b)
+touch (Commit u) = turns u (λ s. Committed) (λ b. b)
+
+abbrev pub recordOf : Access → ℕ
+recordOf a = touch a .touched
+
+abbrev pub changeIn : Access → ℕ
+changeIn a = touch a .change
+
 abbrev pub seenBy : Access → Record → Change → Seen
-seenBy Nothing x ch = sawNothing
-seenBy (ReadMark r) x ch = sawBit (x .mark)
-seenBy (ReadInfo r) x ch = sawNumber (x .info)
-seenBy (ReadCell r f) x ch = sawCell (cellAt (x .cells) f)
-seenBy (ReadState u) x ch = sawState (stateOf u ch)
-seenBy (ReadFrozen u) x ch = sawBit (ch .frozen)
-seenBy (Hold r want u) x ch = sawBit (eqb (x .info) want)
-seenBy (Close r) x ch = sawNothing
-seenBy (Write r f old new) x ch = sawNothing
-seenBy (Freeze u) x ch = sawNothing
-seenBy (Abort u) x ch = sawNothing
-seenBy (Commit u) x ch = sawNothing
-
--- the words of a record after an access: Hold alters the info, Close the mark, Write a cell
-abbrev pub infoBy : Access → ℕ → ℕ
-infoBy Nothing i = i
-infoBy (ReadMark r) i = i
-infoBy (ReadInfo r) i = i
-infoBy (ReadCell r f) i = i
-infoBy (ReadState u) i = i
-infoBy (ReadFrozen u) i = i
-infoBy (Hold r want u) i = pick (eqb i want) u i
-infoBy (Close r) i = i
-infoBy (Write r f old new) i = i
-infoBy (Freeze u) i = i
-infoBy (Abort u) i = i
-infoBy (Commit u) i = i
-
-abbrev pub markBy : Access → Bool → Bool
-markBy Nothing b = b
-markBy (ReadMark r) b = b
-markBy (ReadInfo r) b = b
-markBy (ReadCell r f) b = b
-markBy (ReadState u) b = b
-markBy (ReadFrozen u) b = b
-markBy (Hold r want u) b = b
-markBy (Close r) b = true
-markBy (Write r f old new) b = b
-markBy (Freeze u) b = b
-markBy (Abort u) b = b
-markBy (Commit u) b = b
-
-abbrev pub cellsBy : Access → List Cell → List Cell
-cellsBy Nothing cs = cs
-cellsBy (ReadMark r) cs = cs
-cellsBy (ReadInfo r) cs = cs
-cellsBy (ReadCell r f) cs = cs
-cellsBy (ReadState u) cs = cs
-cellsBy (ReadFrozen u) cs = cs
-cellsBy (Hold r want u) cs = cs
-cellsBy (Close r) cs = cs
-cellsBy (Write r f old new) cs = pick (sameCell (cellAt cs f) old) (set cs f new) cs
-cellsBy (Freeze u) cs = cs
-cellsBy (Abort u) cs = cs
-cellsBy (Commit u) cs = cs
+seenBy a = touch a .sees
 
 abbrev pub recordBy : Access → Record → Record
-recordBy a x = record { cells = cellsBy a (x .cells); mark = markBy a (x .mark); info = infoBy a (x .info) }
-
--- the words of a change after an access: Abort and Commit set the state, Freeze sets allFrozen
-abbrev pub stateBy : Access → State → State
-stateBy Nothing s = s
-stateBy (ReadMark r) s = s
-stateBy (ReadInfo r) s = s
-stateBy (ReadCell r f) s = s
-stateBy (ReadState u) s = s
-stateBy (ReadFrozen u) s = s
-stateBy (Hold r want u) s = s
-stateBy (Close r) s = s
-stateBy (Write r f old new) s = s
-stateBy (Freeze u) s = s
-stateBy (Abort u) s = Aborted
-stateBy (Commit u) s = Committed
-
-abbrev pub frozenBy : Access → Bool → Bool
-frozenBy Nothing b = b
-frozenBy (ReadMark r) b = b
-frozenBy (ReadInfo r) b = b
-frozenBy (ReadCell r f) b = b
-frozenBy (ReadState u) b = b
-frozenBy (ReadFrozen u) b = b
-frozenBy (Hold r want u) b = b
-frozenBy (Close r) b = b
-frozenBy (Write r f old new) b = b
-frozenBy (Freeze u) b = true
-frozenBy (Abort u) b = b
-frozenBy (Commit u) b = b
+recordBy a x = record { cells = touch a .cells (x .cells); mark = touch a .mark (x .mark); info = touch a .info (x .info) }
 
 abbrev pub changeBy : Access → Change → Change
 changeBy a x =
@@ -124,8 +85,8 @@ changeBy a x =
       field = x .field;
       new = x .new;
       old = x .old;
-      state = stateBy a (x .state);
-      frozen = frozenBy a (x .frozen);
+      state = touch a .state (x .state);
+      frozen = touch a .frozen (x .frozen);
       infos = x .infos;
     }
 

@@ -5,8 +5,8 @@ use mathlib.Core.List.{List}
 use lib.ListN.{getD, set}
 use Rattle.rules.specs.Words.{Access, Task, Link, Machine, Seen, Move, Out}
 use Rattle.table.specs.Table.{pick, noCells, noLink, changeAt, taskAt, slot, linkAt}
-use Rattle.rules.specs.Access.{changeOf, accessOf, recordOf}
-use Rattle.rules.specs.Perform.{seen, perform}
+use Rattle.rules.specs.Access.{changeOf, accessOf}
+use Rattle.rules.specs.Perform.{recordOf, seen, perform}
 use Rattle.rules.specs.Resume.{resume}
 
 -- the task after it: at the new place, the cell seen kept as its field
