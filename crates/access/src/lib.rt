@@ -2,9 +2,8 @@
 ghost use mathlib.Core.Path.{_≡_};
 ghost use lib.ListN.{getD};
 ghost use Rattle.rules.specs.Words.{Hold, Write};
-ghost use Rattle.rules.specs.Access.{changeOf, accessOf};
+ghost use Rattle.rules.specs.Places.{changeOf, accessOf, isIdle};
 ghost use Rattle.rules.specs.Perform.{recordOf};
-ghost use Rattle.rules.specs.Refuse.{isIdle};
 use table::Access;
 use table::Cell;
 use table::Change;

@@ -4,7 +4,7 @@ use mathlib.Core.List.{List}
 use Rattle.rules.specs.Words.{Cell, Record, Change, Task, Link, Access, Seen, Move}
 use Rattle.table.specs.Table.{pick, noCells}
 use Rattle.rules.specs.Perform.{seenBy, recordBy, changeBy}
-use Rattle.rules.specs.Resume.{resume}
+use Rattle.rules.specs.Places.{resume}
 use Rattle.rules.specs.Step.{taskBy, linkBy}
 use Rattle.act.specs.Act.{actOf}
 

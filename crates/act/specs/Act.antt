@@ -3,7 +3,7 @@
 use Rattle.rules.specs.Words.{Record, Change, Task, Link, Access}
 use Rattle.table.specs.Table.{pick, noCells}
 use Rattle.rules.specs.Perform.{seenBy, recordBy, changeBy}
-use Rattle.rules.specs.Resume.{resume}
+use Rattle.rules.specs.Places.{resume}
 use Rattle.rules.specs.Step.{taskBy, linkBy}
 use Rattle.act.specs.declared.Stored.{Stored}
 

@@ -9,7 +9,6 @@ use table::Cell;
 use table::Cells;
 use table::Change;
 use table::Link;
-use table::List;
 use table::Machine;
 use table::Move;
 use table::Record;

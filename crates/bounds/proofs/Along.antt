@@ -9,10 +9,9 @@ use borrow.Author.Tests.{eqb-true, eq-eqb}
 use Rattle.rules.specs.Words.{Machine, Call, Ask, AskLlx, AskScx, AskVlx, AskRead, AskStep, Record, Change, Task, Seen, Move}
 use Rattle.rules.specs.Words.{Place, Idle}
 use Rattle.table.specs.Table.{recordAt, taskAt}
-use Rattle.rules.specs.Access.{changeOf}
-use Rattle.rules.specs.Resume.{resume}
+use Rattle.rules.specs.Places.{changeOf, resume, isIdle}
 use Rattle.rules.specs.Step.{moveAt}
-use Rattle.rules.specs.Refuse.{isIdle, idleAt}
+use Rattle.rules.specs.Refuse.{idleAt}
 use Rattle.rules.specs.Next.{next}
 use Rattle.clauses.proofs.Updates.{same?}
 use Rattle.clauses.proofs.Memory.{apply}

@@ -9,9 +9,7 @@ use borrow.Author.Tests.{lt-ltb, le-ltb}
 use native.Mathlib.Omega.{arith}
 use native.Mathlib.Nat.{le-refl}
 use Rattle.rules.specs.Words.{Machine, Call, Change, Place, Idle, Answer, Seen, Move}
-use Rattle.rules.specs.Access.{changeOf}
-use Rattle.rules.specs.Resume.{resume}
-use Rattle.rules.specs.Refuse.{isIdle}
+use Rattle.rules.specs.Places.{changeOf, resume, isIdle}
 use Rattle.rules.specs.Next.{next}
 use Rattle.clauses.proofs.Updates.{same?, bool?, tf}
 use Rattle.clauses.proofs.Memory.{Shared, apply}

@@ -7,7 +7,7 @@ use native.Mathlib.Omega.{arith}
 use native.Mathlib.Nat.{le-refl}
 use Rattle.rules.specs.Words.{Machine, Call, Ask, AskLlx, AskScx, AskVlx, AskRead, AskStep, Place, Idle, L1, Vlx, Read}
 use Rattle.rules.specs.Words.{Answer, Accepted, Snapshot, Finalized, Fail, Yes, No, Value, Refused}
-use Rattle.rules.specs.Refuse.{isIdle}
+use Rattle.rules.specs.Places.{isIdle}
 use Rattle.rules.specs.Next.{next}
 use Rattle.keeps.proofs.Refused.{isAccepted, Plain, plain}
 use Rattle.clauses.proofs.Updates.{bool?, tf}

@@ -11,9 +11,9 @@ use native.Mathlib.Nat.{le-refl}
 use Rattle.rules.specs.Words.{Cell, State, InProgress, Committed, Aborted, Change, After, Own, AtL8, AtL11, Seen, Fail, Yes}
 use Rattle.rules.specs.Words.{Place, Idle, L1, L2, L3, L4, L5, L6, L7, L8, L9, L10, L11, H1, H2, H3, H4, H5, H6, H7, H8, Vlx, Read}
 use Rattle.table.specs.Table.{pick}
-use Rattle.rules.specs.Access.{changeOf}
+use Rattle.rules.specs.Places.{changeOf, resume}
 use Rattle.rules.specs.Resume.{on, done, snapshot, noAndDrop, afterL4, afterL5, afterL6, afterL7, afterL8, afterL10, afterL11, verdict}
-use Rattle.rules.specs.Resume.{afterHeld, afterH1, afterH3, firstFrom, atMark, afterVlx, resume}
+use Rattle.rules.specs.Resume.{afterHeld, afterH1, afterH3, firstFrom, atMark, afterVlx}
 use Rattle.keeps.proofs.Stores.{picked}
 use Rattle.clauses.proofs.Memory.{Terms, Shared, Table, apply, nop, hold, abort, freeze, close, commit}
 use Rattle.clauses.proofs.History.{Ghost}

@@ -7,8 +7,7 @@ use native.Mathlib.Omega.{arith}
 use native.Mathlib.Nat.{le-refl}
 use Rattle.rules.specs.Words.{Machine, Call, Ask, AskLlx, AskScx, AskVlx, AskRead, Place, Idle, L1, H1, Vlx, Read, Own, Yes, Change, Seen}
 use Rattle.table.specs.Table.{taskAt}
-use Rattle.rules.specs.Access.{changeOf}
-use Rattle.rules.specs.Resume.{resume}
+use Rattle.rules.specs.Places.{changeOf, resume}
 use Rattle.rules.specs.Next.{next}
 use Rattle.clauses.proofs.Memory.{Terms, Shared, apply}
 use Rattle.clauses.proofs.Steps.{termsOf, actAt, Saw}

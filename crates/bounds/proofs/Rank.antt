@@ -8,7 +8,7 @@ use native.Mathlib.Nat.{le-refl}
 use Rattle.rules.specs.Words.{State, InProgress, Committed, Aborted, After, Own, AtL8, AtL11}
 use Rattle.rules.specs.Words.{Place, Idle, L1, L2, L3, L4, L5, L6, L7, L8, L9, L10, L11, H1, H2, H3, H4, H5, H6, H7, H8, Vlx, Read}
 use Rattle.table.specs.Table.{pick}
-use Rattle.rules.specs.Access.{changeOf}
+use Rattle.rules.specs.Places.{changeOf}
 use Rattle.keeps.proofs.Stores.{picked}
 use Rattle.clauses.proofs.Memory.{Shared, Act, apply}
 use Rattle.clauses.proofs.History.{Ghost, Reading}

@@ -11,8 +11,8 @@ use native.Mathlib.Nat.{le-refl}
 use Rattle.rules.specs.Words.{State, InProgress, Committed, Aborted, Change, Seen, Machine, Call, AskLlx, Record, Snapshot}
 use Rattle.rules.specs.Words.{Place, Idle, L1, L2, L3, L4, L5, L6}
 use Rattle.table.specs.Table.{pick}
-use Rattle.rules.specs.Resume.{afterL4, resume}
-use Rattle.rules.specs.Refuse.{isIdle}
+use Rattle.rules.specs.Places.{resume, isIdle}
+use Rattle.rules.specs.Resume.{afterL4}
 use Rattle.rules.specs.Next.{next}
 use Rattle.clauses.proofs.Memory.{Shared, apply}
 use Rattle.clauses.proofs.Steps.{actAt, Saw}

@@ -10,9 +10,8 @@ use native.Mathlib.Omega.{arith}
 use native.Mathlib.Nat.{le-refl}
 use Rattle.rules.specs.Words.{Change, Own, Seen, Machine, Call, Task, Yes, Place, Idle, H1, H5, H6, H7, H8}
 use Rattle.table.specs.Table.{pick}
-use Rattle.rules.specs.Access.{changeOf}
-use Rattle.rules.specs.Resume.{firstFrom, atMark, resume}
-use Rattle.rules.specs.Refuse.{isIdle}
+use Rattle.rules.specs.Places.{changeOf, resume, isIdle}
+use Rattle.rules.specs.Resume.{firstFrom, atMark}
 use Rattle.rules.specs.Next.{next}
 use Rattle.clauses.proofs.Updates.{upd-miss, same?}
 use Rattle.clauses.proofs.Memory.{Terms, Shared, hold, make, apply}

@@ -7,9 +7,8 @@ use mathlib.Core.List.{List}
 use lib.ListN.{length, getD, set}
 use Rattle.rules.specs.Words.{Cell, Change, Seen}
 use Rattle.rules.specs.Words.{Place, Idle, L1, L2, L3, L4, L5, L6, L7, L8, L9, L10, L11, H1, H2, H3, H4, H5, H6, H7, H8, Vlx, Read}
-use Rattle.rules.specs.Access.{changeOf, accessOf}
+use Rattle.rules.specs.Places.{changeOf, accessOf, resume}
 use Rattle.rules.specs.Perform.{recordOf}
-use Rattle.rules.specs.Resume.{resume}
 use Rattle.clauses.proofs.Memory.{Terms, Table}
 use Rattle.clauses.proofs.History.{Ghost}
 use Rattle.clauses.proofs.Clauses.{At, Live, Fine}

@@ -10,7 +10,7 @@ use lib.Dec.{eqb, ltb}
 use borrow.Author.Tests.{eqb-true, eqb-false, ltb-true, ltb-false}
 use Rattle.rules.specs.Words.{Cell, InProgress, Committed, Link, After, Own, AtL8, AtL11, H1, H2, H3, H4, H5, H6, H7, H8}
 use Rattle.table.specs.Table.{pick}
-use Rattle.rules.specs.Access.{changeOf}
+use Rattle.rules.specs.Places.{changeOf}
 use Rattle.rules.specs.Resume.{on, verdict, afterHeld, afterH1, afterH2, afterH3, firstFrom, atMark}
 use Rattle.clauses.proofs.Updates.{upd, upd-hit, same?, bool?, tf, leb-case}
 use Rattle.clauses.proofs.Memory.{Shared, Table, spot, apply, Act, nop, hold, abort, freeze, close, write, commit}

@@ -5,7 +5,7 @@ use mathlib.Core.Bool.{Bool, true, false, true≢false}
 use mathlib.Core.Logic.{_⊎_, inl, inr, _≢_, ⊎-elim}
 use Rattle.rules.specs.Words.{Aborted, Link}
 use Rattle.table.specs.Table.{pick}
-use Rattle.rules.specs.Access.{changeOf}
+use Rattle.rules.specs.Places.{changeOf}
 use Rattle.clauses.proofs.Updates.{upd, upd-hit, upd-miss, at, same?}
 use Rattle.clauses.proofs.Memory.{Terms, Shared, Table, apply}
 use Rattle.clauses.proofs.Memory.{Act, nop, hold, abort, freeze, close, write, commit, make}

@@ -6,7 +6,7 @@ use mathlib.Core.Bool.{Bool, true}
 use mathlib.Core.List.{List}
 use Rattle.rules.specs.Words.{Machine, Out, Access, Ask, AskLlx, AskScx, AskVlx, AskRead, AskStep, Call, Refusal, Check, Passed, Failed}
 use Rattle.table.specs.Table.{changeAt, taskAt}
-use Rattle.rules.specs.Access.{accessOf}
+use Rattle.rules.specs.Places.{accessOf}
 use Rattle.rules.specs.Perform.{recordOf}
 use Rattle.rules.specs.Step.{dropFirst, accessAt}
 use Rattle.rules.specs.Shape.{inShape, InShape}

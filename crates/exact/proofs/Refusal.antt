@@ -13,7 +13,8 @@ use Rattle.rules.specs.Words.{TaskBusy, ListLength, NoSuchRecord, RecordTwice, 
 use Rattle.table.specs.Table.{pick, taskAt, linkAt, noLink}
 use Rattle.rules.specs.Claim.{allBelow, test}
 use Rattle.rules.specs.Shape.{within, exist, apart, InShape}
-use Rattle.rules.specs.Refuse.{inside, isIdle, check, rules, idleAt, linkedAt}
+use Rattle.rules.specs.Places.{isIdle}
+use Rattle.rules.specs.Refuse.{inside, check, rules, idleAt, linkedAt}
 use Rattle.rules.proofs.Exact.{told}
 use Rattle.refuse.specs.Linked.{theres, linkedBy}
 use Rattle.hand.specs.Hand.{linksOf}

@@ -8,9 +8,8 @@ use lib.Seq.{set-getD}
 use Rattle.rules.specs.Words.{Machine, Record, Change, AskStep, Access, Seen, Move, Out}
 use Rattle.rules.specs.Words.{Place, Idle, L1, L2, L3, L4, L5, L6, L7, L8, L9, L10, L11, H1, H2, H3, H4, H5, H6, H7, H8, Vlx, Read}
 use Rattle.table.specs.Table.{pick, noCells, noChange, recordAt, changeAt, taskAt, slot, linkAt}
-use Rattle.rules.specs.Access.{changeOf, accessOf}
+use Rattle.rules.specs.Places.{changeOf, accessOf, resume}
 use Rattle.rules.specs.Perform.{recordOf, changeIn, seenBy, recordBy, changeBy, seen, perform}
-use Rattle.rules.specs.Resume.{resume}
 use Rattle.rules.specs.Step.{taskBy, linkBy, dropFirst, settle, accessAt, moveAt, step}
 use Rattle.rules.specs.Shape.{InShape}
 use Rattle.act.specs.Act.{actOf}

@@ -11,8 +11,7 @@ use Rattle.rules.specs.Words.{After, Own, Place, H1, H7, Machine, Ask, Call, Ac
 use Rattle.table.specs.Table.{pick, cellAt, recordAt, changeAt, taskAt, linkAt, sameCell}
 use Rattle.rules.specs.Claim.{both, allBelow}
 use Rattle.rules.proofs.Exact.{both-is, both-on, all-is}
-use Rattle.rules.specs.Access.{changeOf}
-use Rattle.rules.specs.Refuse.{isIdle}
+use Rattle.rules.specs.Places.{changeOf, isIdle}
 use Rattle.rules.specs.Next.{llx, scx, stepping}
 use Rattle.orders.specs.Demand.{Brings, at-h3, at-h4, at-h8, leads, answers, before, said, place, cell, info, Steps, Change, named, spot}
 use Rattle.orders.specs.Demand.{During, Effect, Holds, Starts, Going, Snap, LinkedRead, Verdict}

@@ -10,8 +10,7 @@ use Rattle.rules.specs.Words.{Cell, After, Own, Place, H7, No, Machine, Call, O
 use Rattle.table.specs.Table.{pick, recordAt, taskAt, sameCell}
 use Rattle.rules.specs.Claim.{both, allBelow}
 use Rattle.rules.proofs.Exact.{both-on, all-is}
-use Rattle.rules.specs.Access.{changeOf}
-use Rattle.rules.specs.Refuse.{isIdle}
+use Rattle.rules.specs.Places.{changeOf, isIdle}
 use Rattle.orders.specs.Demand.{answers, Brings, at-h3, at-h4, at-h8, Works}
 use Rattle.orders.specs.Demand.{before, said, place, cell, info, Change, named, spot, Effect, Holds, LinkedRead, Verdict}
 use Rattle.orders.proofs.Working.{works-on}

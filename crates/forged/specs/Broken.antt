@@ -10,7 +10,7 @@ use Rattle.rules.specs.Words.{Access, Nothing, Hold, Write, Commit, Machine, Ou
 use Rattle.rules.specs.Words.{Ask, AskLlx, AskScx, AskVlx, AskRead, AskStep}
 use Rattle.rules.specs.Start.{atPlace}
 use Rattle.table.specs.Table.{pick, noCells, cellAt, recordAt, changeAt, taskAt, linkAt}
-use Rattle.rules.specs.Access.{changeOf, accessOf}
+use Rattle.rules.specs.Places.{changeOf, accessOf}
 use Rattle.rules.specs.Perform.{recordOf, sawBit, sawNumber}
 use Rattle.rules.specs.Resume.{on, verdict, firstFrom}
 use Rattle.rules.specs.Step.{accessAt, step}

@@ -5,9 +5,8 @@ use mathlib.Core.List.{List}
 use Rattle.rules.specs.Words.{Place, Access, Seen, Move, Machine, Out, Call, Check, Passed, Failed}
 use Rattle.rules.specs.Words.{Ask, AskLlx, AskScx, AskVlx, AskRead, AskStep}
 use Rattle.table.specs.Table.{pick, noCells, changeAt, taskAt, linkAt}
-use Rattle.rules.specs.Access.{changeOf}
+use Rattle.rules.specs.Places.{changeOf, resume}
 use Rattle.rules.specs.Perform.{recordOf, seen, perform}
-use Rattle.rules.specs.Resume.{resume}
 use Rattle.rules.specs.Step.{settle, accessAt}
 use Rattle.rules.specs.Refuse.{check, rulesOf}
 use Rattle.rules.specs.Next.{refused, started}

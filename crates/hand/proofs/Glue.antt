@@ -4,7 +4,8 @@ use mathlib.Core.Path.{_≡_, refl, sym, ap, _∙_}
 use mathlib.Core.Bool.{Bool}
 use mathlib.Core.List.{List}
 use Rattle.rules.specs.Words.{Ask, Call, Check}
-use Rattle.rules.specs.Refuse.{isIdle, check, rules}
+use Rattle.rules.specs.Places.{isIdle}
+use Rattle.rules.specs.Refuse.{check, rules}
 use Rattle.refuse.specs.Linked.{linkedBy}
 use Rattle.begin.specs.Begun.{begunBy}
 use Rattle.hand.specs.declared.Hand.{Hand}

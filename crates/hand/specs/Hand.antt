@@ -5,10 +5,10 @@ use mathlib.Core.List.{List, [], _∷_, map}
 use lib.ListN.{getD, set}
 use Rattle.rules.specs.Words.{Place, Link, Machine, Ask, AskLlx, AskScx, AskVlx, AskRead, AskStep, Call, Refusal, Accepted, Refused, Out, Access, Check, Passed, Failed}
 use Rattle.table.specs.Table.{noCells, noLink, recordAt, changeAt, taskAt, slot, linkAt}
-use Rattle.rules.specs.Access.{changeOf, accessOf}
+use Rattle.rules.specs.Places.{changeOf, accessOf, isIdle}
 use Rattle.rules.specs.Perform.{recordOf}
 use Rattle.rules.specs.Step.{dropFirst}
-use Rattle.rules.specs.Refuse.{isIdle, check, rules}
+use Rattle.rules.specs.Refuse.{check, rules}
 use Rattle.refuse.specs.Linked.{linkedBy}
 use Rattle.begin.specs.declared.Begun.{Begun}
 use Rattle.begin.specs.Begun.{nextNumber, begunBy}

@@ -10,7 +10,7 @@ use Rattle.rules.specs.Words.{Place, Idle, L1, L2, L3, L4, L5, L6, L7, L8, L9, 
 use Rattle.keeps.proofs.Stores.{any, picked}
 use Rattle.keeps.proofs.Fine.{Fine}
 use Rattle.table.specs.Table.{noCell, cellAt, recordAt, changeAt, sameCell}
-use Rattle.rules.specs.Access.{changeOf, accessOf}
+use Rattle.rules.specs.Places.{changeOf, accessOf}
 use Rattle.rules.specs.Perform.{recordOf, changeIn, seenBy, recordBy}
 use Rattle.rules.specs.Claim.{Says}
 use Rattle.rules.specs.Shape.{recordFine, stampsKnown, placeFine}

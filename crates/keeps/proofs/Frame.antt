@@ -10,15 +10,14 @@ use Rattle.rules.specs.Words.{Record, Change, Task, Link, Machine}
 use Rattle.keeps.proofs.Stores.{stored}
 use Rattle.keeps.proofs.Fine.{Fine}
 use Rattle.keeps.proofs.Places.{named, stays}
-use Rattle.table.specs.Table.{noRecord, noChange, noTask, noLink, slot, changeAt, taskAt, linkAt}
-use Rattle.rules.specs.Access.{changeOf}
+use Rattle.table.specs.Table.{noRecord, noChange, noTask, noLink, slot, changeAt, taskAt, linkAt, remade}
+use Rattle.rules.specs.Places.{changeOf}
 use Rattle.rules.specs.Claim.{Claim, Says}
 use Rattle.rules.specs.Shape.{recordFine, changeFine, linkFine, placeFine}
 
 -- m with task t, the used count and the shared words put anew
 abbrev pub put : Machine → ℕ → ℕ → List Record → List Change → Task → List Link → Machine
-put m t used rs xs x ls =
-    record { p = m .p; n = m .n; used = used; records = rs; changes = xs; tasks = set (m .tasks) t x; links = ls }
+put m t used rs xs x ls = remade m used rs xs (set (m .tasks) t x) ls
 
 -- the claim of task x as task t's, over these changes and links
 abbrev pub claimOf : ℕ → List Change → List Link → ℕ → Task → Claim

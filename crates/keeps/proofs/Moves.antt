@@ -17,9 +17,9 @@ use Rattle.keeps.proofs.Fine.{Fine}
 use Rattle.keeps.proofs.Places.{relinked}
 use Rattle.keeps.proofs.Acts.{Claimed, seenFrom}
 use Rattle.table.specs.Table.{pick, noCell, recordAt, changeAt, stateOf}
-use Rattle.rules.specs.Access.{changeOf}
+use Rattle.rules.specs.Places.{changeOf, resume}
 use Rattle.rules.specs.Resume.{on, onWith, done, snapshot, noAndDrop, afterL4, afterL5, afterL6, afterL7, afterL8, afterL10, afterL11}
-use Rattle.rules.specs.Resume.{verdict, afterHeld, isFrom, firstFrom, atMark, afterVlx, resume}
+use Rattle.rules.specs.Resume.{verdict, afterHeld, isFrom, firstFrom, atMark, afterVlx}
 use Rattle.rules.specs.Claim.{Says}
 use Rattle.rules.specs.Shape.{stampsKnown, afterFine}
 

@@ -6,7 +6,7 @@ use mathlib.Core.Bool.{Bool, true}
 use mathlib.Core.List.{List}
 use lib.ListN.{getD}
 use Rattle.rules.specs.Words.{Cell, Place, Idle, L1, L2, L3, L4, L5, L6, L7, L8, L9, L10, L11, H1, H2, H3, H4, H5, H6, H7, H8, Vlx, Read}
-use Rattle.rules.specs.Access.{changeOf}
+use Rattle.rules.specs.Places.{changeOf}
 use Rattle.rules.specs.Claim.{Says}
 use Rattle.rules.specs.Shape.{placeFine}
 use Rattle.rules.proofs.Exact.{more}

@@ -14,10 +14,11 @@ use Rattle.rules.specs.Words.{Ask, AskLlx, AskScx, AskVlx, AskRead, AskStep, Ca
 use Rattle.rules.specs.Words.{Refusal, OutOfShape, NoSuchTask, TaskIdle}
 use Rattle.rules.specs.Words.{Answer, Accepted, Snapshot, Finalized, Fail, Yes, No, Value, Refused}
 use Rattle.table.specs.Table.{pick, changeAt, taskAt, noChange}
-use Rattle.rules.specs.Resume.{on, done, snapshot, noAndDrop, verdict, afterL4, afterL7, afterL8, afterL10, afterHeld, firstFrom, resume}
+use Rattle.rules.specs.Places.{resume, isIdle}
+use Rattle.rules.specs.Resume.{on, done, snapshot, noAndDrop, verdict, afterL4, afterL7, afterL8, afterL10, afterHeld, firstFrom}
 use Rattle.rules.specs.Step.{moveAt, step}
 use Rattle.rules.specs.Start.{filled, start}
-use Rattle.rules.specs.Refuse.{unless, isIdle, check, rules, idleAt, linkedAt, rulesOf}
+use Rattle.rules.specs.Refuse.{unless, check, rules, idleAt, linkedAt, rulesOf}
 use Rattle.rules.specs.Claim.{holds}
 use Rattle.rules.specs.Shape.{inShape}
 use Rattle.rules.specs.Next.{refused, started, accepted, answered, next}

@@ -18,9 +18,8 @@ use Rattle.keeps.proofs.Acts.{Leaves, accessFrom, seenFrom, acts}
 use Rattle.keeps.proofs.Moves.{MoveFine, moves}
 use Rattle.keeps.proofs.Fixed.{Same, by-access}
 use Rattle.table.specs.Table.{noRecord, noChange, noLink, recordAt, changeAt, taskAt, slot, linkAt}
-use Rattle.rules.specs.Access.{changeOf}
+use Rattle.rules.specs.Places.{changeOf, resume}
 use Rattle.rules.specs.Perform.{recordOf, changeIn, recordBy, changeBy, seen, perform}
-use Rattle.rules.specs.Resume.{resume}
 use Rattle.rules.specs.Step.{taskBy, linkBy, dropFirst, settle, accessAt, moveAt, step}
 use Rattle.rules.specs.Claim.{Says}
 use Rattle.rules.specs.Shape.{recordFine, changeFine, linkFine}

@@ -6,7 +6,8 @@ use mathlib.Core.Bool.{Bool, true, false, not, true≢false}
 use mathlib.Core.Logic.{_⊎_, inl, inr, _≢_, ⊎-elim}
 use Rattle.rules.specs.Words.{Machine, Call, Place, Idle, Check, Passed, Failed, Refusal, Refused, Accepted, Out}
 use Rattle.rules.specs.Words.{Ask, AskLlx, AskScx, AskVlx, AskRead, AskStep}
-use Rattle.rules.specs.Refuse.{isIdle, check, rulesOf}
+use Rattle.rules.specs.Places.{isIdle}
+use Rattle.rules.specs.Refuse.{check, rulesOf}
 use Rattle.rules.specs.Next.{refused, started, accepted, answered, next}
 use Rattle.clauses.proofs.Updates.{tf}
 use Rattle.orders.specs.Demand.{before, said, place}

@@ -9,7 +9,8 @@ use borrow.Author.Tests.{lt-ltb}
 use Rattle.rules.specs.Words.{Machine, Ask, AskLlx, AskScx, AskVlx, AskRead, AskStep, Call, Check, Passed, Failed, Refusal, Out}
 use Rattle.rules.specs.Words.{Place, Idle, L1, L2, L3, L4, L5, L6, L7, L8, L9, L10, L11, H1, H2, H3, H4, H5, H6, H7, H8, Vlx, Read}
 use Rattle.table.specs.Table.{taskAt}
-use Rattle.rules.specs.Refuse.{isIdle, check, rulesOf, idleAt}
+use Rattle.rules.specs.Places.{isIdle}
+use Rattle.rules.specs.Refuse.{check, rulesOf, idleAt}
 use Rattle.rules.specs.Shape.{shape, inShape, InShape}
 use Rattle.rules.specs.Next.{refused, answered, next}
 use Rattle.rules.proofs.Exact.{passes}

@@ -11,9 +11,9 @@ use Rattle.rules.specs.Words.{Place, Idle, L1, L2, L3, L4, L5, L6, L7, L8, L9, 
 use Rattle.rules.specs.Words.{Ask, AskLlx, AskScx, AskVlx, AskRead, AskStep, Call, Check, Passed, Failed}
 use Rattle.rules.specs.Words.{Refusal, Accepted, Snapshot, Fail, Yes, Refused}
 use Rattle.table.specs.Table.{pick, taskAt, changeAt, linkAt}
-use Rattle.rules.specs.Access.{changeOf, accessOf}
+use Rattle.rules.specs.Places.{changeOf, accessOf, resume}
 use Rattle.rules.specs.Perform.{recordOf, seen}
-use Rattle.rules.specs.Resume.{on, done, snapshot, noAndDrop, verdict, afterL7, afterL10, resume}
+use Rattle.rules.specs.Resume.{on, done, snapshot, noAndDrop, verdict, afterL7, afterL10}
 use Rattle.rules.specs.Step.{accessAt, moveAt, step}
 use Rattle.rules.specs.Start.{filled}
 use Rattle.rules.specs.Refuse.{check, rules, idleAt, linkedAt, rulesOf}

@@ -7,7 +7,8 @@ use mathlib.Core.Logic.{_⊎_, inl, inr}
 use lib.Dec.{eqb, ltb}
 use Rattle.rules.specs.Words.{Change, After, Own, AtL8, AtL11, Place, H1, H2, H3, H4, H5, H6, H7, H8, Seen, Move, Accepted}
 use Rattle.table.specs.Table.{pick}
-use Rattle.rules.specs.Resume.{on, verdict, afterHeld, atMark, firstFrom, resume}
+use Rattle.rules.specs.Places.{resume}
+use Rattle.rules.specs.Resume.{on, verdict, afterHeld, atMark, firstFrom}
 use Rattle.orders.specs.Demand.{Brings, at-h3, at-h4, at-h8, Works, h1, h2, h3, h4, h5, h6, h7, h8, leads, answers}
 
 -- what a move is to a task that works on u and, at H3, read allFrozen

@@ -7,7 +7,7 @@ use mathlib.Core.Logic.{_⊎_, inl, inr, _≢_, ⊎-elim}
 use native.Mathlib.Omega.{arith}
 use native.Mathlib.Nat.{le-refl}
 use Rattle.rules.specs.Words.{Machine, Call, Out, Place, Idle, After, Own, Accepted}
-use Rattle.rules.specs.Refuse.{isIdle}
+use Rattle.rules.specs.Places.{isIdle}
 use Rattle.clauses.proofs.Updates.{same?, leb-case, tf}
 use Rattle.orders.specs.Demand.{Brings, at-h3, at-h4, at-h8, Works, h1, h3, h4, h8, leads, answers}
 use Rattle.orders.specs.Demand.{said, place, Steps, Change, During, Verdict, Going, Demand3}

@@ -10,7 +10,7 @@ use lib.Dec.{ltb}
 use borrow.Author.Tests.{lt-ltb}
 use Rattle.rules.specs.Words.{Link, Machine, Move}
 use Rattle.table.specs.Table.{pick, noLink, changeAt, taskAt, slot, linkAt}
-use Rattle.rules.specs.Access.{changeOf}
+use Rattle.rules.specs.Places.{changeOf}
 use Rattle.rules.specs.Perform.{recordOf, seen, perform}
 use Rattle.rules.specs.Step.{dropFirst, settle, accessAt, moveAt, step}
 use Rattle.keeps.proofs.Fine.{Fine, in-shape}

@@ -9,7 +9,7 @@ use lib.Dec.{ltb}
 use borrow.Author.Tests.{ltb-true}
 use Rattle.rules.specs.Words.{Machine, Record, Link, Task}
 use Rattle.table.specs.Table.{pick, noRecord, noTask, noLink, cellAt, recordAt, changeAt, taskAt, linkAt}
-use Rattle.rules.specs.Access.{changeOf}
+use Rattle.rules.specs.Places.{changeOf}
 use Rattle.keeps.proofs.Fine.{Fine}
 use Rattle.keeps.proofs.Stores.{picked}
 use Rattle.keeps.proofs.Places.{named}

@@ -6,7 +6,7 @@ use mathlib.Core.Bool.{true, false}
 use borrow.Author.Tests.{lt-ltb}
 use Rattle.rules.specs.Words.{Machine, Task, Idle, Ask, AskStep, Call}
 use Rattle.table.specs.Table.{noRecord, noTask, recordAt, taskAt, linkAt}
-use Rattle.rules.specs.Access.{changeOf}
+use Rattle.rules.specs.Places.{changeOf}
 use Rattle.rules.specs.Perform.{recordOf}
 use Rattle.rules.specs.Step.{accessAt, moveAt}
 use Rattle.rules.specs.Next.{next}

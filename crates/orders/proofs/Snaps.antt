@@ -12,7 +12,8 @@ use Rattle.rules.specs.Words.{Snapshot}
 use Rattle.table.specs.Table.{cellAt, taskAt}
 use Rattle.rules.specs.Perform.{recordOf}
 use Rattle.rules.specs.Step.{accessAt, moveAt, step}
-use Rattle.rules.specs.Refuse.{isIdle, check, rulesOf}
+use Rattle.rules.specs.Places.{isIdle}
+use Rattle.rules.specs.Refuse.{check, rulesOf}
 use Rattle.rules.specs.Next.{refused, started, accepted, answered, next}
 use Rattle.clauses.proofs.Updates.{same?, leb-case, tf}
 use Rattle.clauses.proofs.Memory.{nop, write}

@@ -9,7 +9,7 @@ use native.Mathlib.Omega.{arith}
 use lib.ListN.{length}
 use Rattle.rules.specs.Words.{Cell, Record, Machine, L11, Call}
 use Rattle.table.specs.Table.{cellAt, taskAt, changeAt, linkAt}
-use Rattle.rules.specs.Access.{changeOf}
+use Rattle.rules.specs.Places.{changeOf}
 use Rattle.rules.specs.Claim.{Says}
 use Rattle.rules.specs.Shape.{placeFine}
 use Rattle.table.specs.Fresh.{inRange, fresh}

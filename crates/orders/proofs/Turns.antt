@@ -13,7 +13,7 @@ use Rattle.rules.specs.Words.{Cell, Place, Task, Link, Machine}
 use Rattle.rules.specs.Words.{Ask, AskLlx, AskScx, AskVlx, AskRead, AskStep, Call, Check, Passed, Failed}
 use Rattle.table.specs.Table.{pick, cellAt, changeAt, taskAt, linkAt}
 use Rattle.table.proofs.Tabulate.{getD-tabulate}
-use Rattle.rules.specs.Access.{changeOf}
+use Rattle.rules.specs.Places.{changeOf}
 use Rattle.rules.specs.Perform.{recordOf, seen}
 use Rattle.rules.specs.Step.{accessAt, moveAt, step}
 use Rattle.rules.specs.Start.{filled, start}

@@ -9,7 +9,8 @@ use Rattle.rules.specs.Words.{State, InProgress, Committed, Aborted, Change, Af
 use Rattle.rules.specs.Words.{Place, Idle, L1, L2, L3, L4, L5, L6, L7, L8, L9, L10, L11, H1, H2, H3, H4, H5, H6, H7, H8, Vlx, Read}
 use Rattle.rules.specs.Words.{Answer, Accepted, Snapshot, Finalized, Fail, Yes, No, Value, Refused}
 use Rattle.table.specs.Table.{pick}
-use Rattle.rules.specs.Resume.{on, done, snapshot, noAndDrop, verdict, afterL4, afterL7, afterL8, afterL10, afterHeld, firstFrom, resume}
+use Rattle.rules.specs.Places.{resume}
+use Rattle.rules.specs.Resume.{on, done, snapshot, noAndDrop, verdict, afterL4, afterL7, afterL8, afterL10, afterHeld, firstFrom}
 use Rattle.orders.specs.Demand.{place}
 
 -- one more than the record that an LLX on its way to a snapshot reads, 0 at all other places

@@ -6,10 +6,9 @@ use mathlib.Core.Logic.{_⊎_, inl, inr, _≢_, ⊎-elim}
 use mathlib.Core.List.{List}
 use Rattle.rules.specs.Words.{Cell, After, Machine, Place, AskStep, Accepted, Task, Call, Seen, Out}
 use Rattle.table.specs.Table.{changeAt, taskAt, linkAt}
-use Rattle.rules.specs.Access.{changeOf}
+use Rattle.rules.specs.Places.{changeOf, isIdle}
 use Rattle.rules.specs.Perform.{recordOf, seen}
 use Rattle.rules.specs.Step.{accessAt, moveAt, step}
-use Rattle.rules.specs.Refuse.{isIdle}
 use Rattle.rules.specs.Next.{next}
 use Rattle.clauses.proofs.Updates.{tf}
 use Rattle.clauses.proofs.Memory.{Shared}

@@ -9,8 +9,9 @@ use Rattle.table.specs.Table.{taskAt}
 use Rattle.hand.specs.Hand.{turnIn}
 use Rattle.event.specs.Event.{eventAt}
 use Rattle.tally.specs.declared.Tally.{Tally}
-use Rattle.tally.specs.declared.Operation.{Operation}
-use Rattle.tally.specs.Count.{operationOf, countedOf, tallyOf, firstOf}
+use Rattle.table.specs.declared.Operation.{Operation}
+use Rattle.rules.specs.Places.{operationOf}
+use Rattle.tally.specs.Count.{countedOf, tallyOf, firstOf}
 use Rattle.tally.proofs.Counting.{counted-next, first-none}
 use Rattle.text.specs.Text.{joined}
 use Rattle.text.specs.Put.{Put}

@@ -9,7 +9,8 @@ use Rattle.rules.specs.Words.{Machine, Out}
 use Rattle.event.specs.Event.{eventAt}
 use Rattle.hand.specs.Hand.{turnIn}
 use Rattle.tally.specs.declared.Told.{Told}
-use Rattle.tally.specs.Count.{operationOf, tallyOf, firstOf}
+use Rattle.rules.specs.Places.{operationOf}
+use Rattle.tally.specs.Count.{tallyOf, firstOf}
 use Rattle.text.specs.Text.{joined}
 use Rattle.text.specs.Put.{Put}
 use Rattle.lines.specs.Lines.{answerLine}

@@ -1,6 +1,7 @@
 // The local work that rides on a step's access: where the step leads, by its place and what the access saw.
 ghost use mathlib.Core.Path.{_≡_};
-ghost use Rattle.rules.specs.Resume.{resume, afterVlx};
+ghost use Rattle.rules.specs.Places.{resume};
+ghost use Rattle.rules.specs.Resume.{afterVlx};
 use help::after_h1;
 use help::after_h2;
 use help::after_h3;

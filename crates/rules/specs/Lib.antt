@@ -1,8 +1,8 @@
 -- The modules of specs/, each after those that it uses.
 pub mod Words
-pub mod Access
-pub mod Perform
 pub mod Resume
+pub mod Places
+pub mod Perform
 pub mod Step
 pub mod Claim
 pub mod Shape

@@ -6,7 +6,7 @@ use lib.ListN.{set}
 use lib.Dec.{eqb}
 use Rattle.rules.specs.Words.{Cell, Record, State, InProgress, Committed, Aborted, Change, Machine, Seen}
 use Rattle.rules.specs.Words.{Access, Nothing, ReadMark, ReadInfo, ReadCell, ReadState, ReadFrozen, Hold, Close, Write, Freeze, Abort, Commit}
-use Rattle.table.specs.Table.{pick, noCell, cellAt, recordAt, changeAt, stateOf, sameCell}
+use Rattle.table.specs.Table.{pick, noCell, cellAt, recordAt, changeAt, remade, stateOf, sameCell}
 
 abbrev pub sawNothing : Seen
 sawNothing = record { bit = false; number = 0; cell = noCell; state = InProgress }
@@ -96,12 +96,6 @@ seen a m = seenBy a (recordAt m (recordOf a)) (changeAt m (changeIn a))
 
 unfoldable pub perform : Access → Machine → Machine
 perform a m =
-    record {
-      p = m .p;
-      n = m .n;
-      used = m .used;
-      records = set (m .records) (recordOf a) (recordBy a (recordAt m (recordOf a)));
-      changes = set (m .changes) (changeIn a) (changeBy a (changeAt m (changeIn a)));
-      tasks = m .tasks;
-      links = m .links;
-    }
+    let records = set (m .records) (recordOf a) (recordBy a (recordAt m (recordOf a))) in
+    let changes = set (m .changes) (changeIn a) (changeBy a (changeAt m (changeIn a))) in
+    remade m (m .used) records changes (m .tasks) (m .links)

@@ -1,39 +1,15 @@
 -- THE REFUSALS of the calls, each with when it applies, and for each call those that it can meet, in the order of their numbers:
 -- "Each is given exactly then, the lowest that applies to the call."
 use Prim.Native.Nat.{ℕ, _^_}
-use mathlib.Core.Bool.{Bool, true, false, not}
+use mathlib.Core.Bool.{Bool, not}
 use mathlib.Core.List.{List, [], _∷_}
 use Rattle.rules.specs.Words.{Refusal, OutOfShape, NoSuchTask, TaskBusy, TaskIdle, ListLength, NoSuchRecord, RecordTwice, PlaceOrField, NoLink, NumbersUsed}
-use Rattle.rules.specs.Words.{Place, Idle, L1, L2, L3, L4, L5, L6, L7, L8, L9, L10, L11, H1, H2, H3, H4, H5, H6, H7, H8, Vlx, Read}
 use Rattle.rules.specs.Words.{Machine, Ask, AskLlx, AskScx, AskVlx, AskRead, AskStep, Call, Check, Passed, Failed}
 use Rattle.table.specs.Table.{pick, taskAt, linkAt, maxList, maxFields, maxChanges}
+use Rattle.rules.specs.Places.{isIdle}
 use Rattle.rules.specs.Claim.{Claim, less, holds, _&_, test}
 use Rattle.rules.specs.Shape.{within, exist, apart, allLinked, inList, inShape}
 use Rattle.rules.specs.Start.{places}
-
-abbrev pub isIdle : Place → Bool
-isIdle Idle = true
-isIdle (L1 r) = false
-isIdle (L2 r m1) = false
-isIdle (L3 r m1 a) = false
-isIdle (L4 r m1 a s) = false
-isIdle (L5 r m1 a f) = false
-isIdle (L6 r m1 a) = false
-isIdle (L7 r m1 a) = false
-isIdle (L8 r m1 a) = false
-isIdle (L9 r) = false
-isIdle (L10 r b) = false
-isIdle (L11 r) = false
-isIdle (H1 u i after) = false
-isIdle (H2 u i after) = false
-isIdle (H3 u after) = false
-isIdle (H4 u after) = false
-isIdle (H5 u after) = false
-isIdle (H6 u i after) = false
-isIdle (H7 u after) = false
-isIdle (H8 u after) = false
-isIdle (Vlx n i) = false
-isIdle (Read r f) = false
 
 -- what an SCX writes lies inside: the written place and all of R below n (bits 4 to 7 name places that never are), the field up to 3
 abbrev pub inside : ℕ → ℕ → ℕ → ℕ → Claim

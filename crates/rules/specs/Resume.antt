@@ -1,12 +1,12 @@
--- "Local work rides on it": where each step leads, by what its access saw.
+-- "Local work rides on it": where the steps lead, by what their accesses saw. Places.antt has which of these each place does.
 use Prim.Native.Nat.{ℕ, _+_}
 use mathlib.Core.Bool.{Bool, true, false}
 use mathlib.Core.List.{List}
 use lib.ListN.{getD}
 use lib.Dec.{eqb, ltb, leb}
-use Rattle.rules.specs.Words.{State, InProgress, Committed, Aborted, Change, After, Own, AtL8, AtL11, Seen, Move}
-use Rattle.rules.specs.Words.{Place, Idle, L1, L2, L3, L4, L5, L6, L7, L8, L9, L10, L11, H1, H2, H3, H4, H5, H6, H7, H8, Vlx, Read}
-use Rattle.rules.specs.Words.{TaskIdle, Answer, Accepted, Snapshot, Finalized, Fail, Yes, No, Value, Refused}
+use Rattle.rules.specs.Words.{State, InProgress, Committed, Aborted, After, Own, AtL8, AtL11, Move}
+use Rattle.rules.specs.Words.{Place, Idle, L5, L6, L7, L8, L9, L11, H1, H2, H3, H4, H5, H6, H7, Vlx}
+use Rattle.rules.specs.Words.{Answer, Accepted, Snapshot, Finalized, Fail, Yes, No}
 use Rattle.table.specs.Table.{pick, maxList, maxFields}
 
 -- on to a place; on, with the cell seen kept as field f; the answer, the task idle. No field is numbered maxFields: no cell is kept
@@ -106,28 +106,3 @@ atMark u i after = pick (ltb i maxList) (H6 u i after) (H7 u after)
 abbrev pub afterVlx : ℕ → ℕ → ℕ → ℕ → Move
 afterVlx n i now linked =
     pick (eqb now linked) (pick (ltb (i + 1) n) (on (Vlx n (i + 1))) (done Yes)) (noAndDrop n)
-
--- THE LOCAL WORK of a step at a place, which saw s, names the change ch, and whose link to the record read has the info linked
-abbrev pub resume : Place → Seen → Change → ℕ → Move
-resume Idle s ch linked = done (Refused TaskIdle)
-resume (L1 r) s ch linked = on (L2 r (s .bit))
-resume (L2 r m1) s ch linked = on (L3 r m1 (s .number))
-resume (L3 r m1 a) s ch linked = on (L4 r m1 a (s .state))
-resume (L4 r m1 a read) s ch linked = on (afterL4 r m1 a read (s .bit))
-resume (L5 r m1 a f) s ch linked = onWith (afterL5 r m1 a f) f
-resume (L6 r m1 a) s ch linked = afterL6 r m1 a (s .number)
-resume (L7 r m1 a) s ch linked = afterL7 r m1 a (s .state)
-resume (L8 r m1 a) s ch linked = on (afterL8 r m1 a (s .state))
-resume (L9 r) s ch linked = on (L10 r (s .number))
-resume (L10 r b) s ch linked = afterL10 r (s .state)
-resume (L11 r) s ch linked = afterL11 (s .number)
-resume (H1 u i after) s ch linked = on (afterH1 u i (ch .n) after (s .bit))
-resume (H2 u i after) s ch linked = on (afterH2 u i (ch .n) after (s .number))
-resume (H3 u after) s ch linked = afterH3 u after (s .bit)
-resume (H4 u after) s ch linked = verdict false after
-resume (H5 u after) s ch linked = on (atMark u (firstFrom (ch .r) 0) after)
-resume (H6 u i after) s ch linked = on (atMark u (firstFrom (ch .r) (i + 1)) after)
-resume (H7 u after) s ch linked = on (H8 u after)
-resume (H8 u after) s ch linked = verdict true after
-resume (Vlx n i) s ch linked = afterVlx n i (s .number) linked
-resume (Read r f) s ch linked = done (Value (s .cell))

@@ -8,7 +8,7 @@ use lib.Dec.{eqb}
 use Rattle.rules.specs.Words.{Cell, Record, Change, Link, Machine, After, Own, AtL8, AtL11}
 use Rattle.rules.specs.Words.{Place, Idle, L1, L2, L3, L4, L5, L6, L7, L8, L9, L10, L11, H1, H2, H3, H4, H5, H6, H7, H8, Vlx, Read}
 use Rattle.table.specs.Table.{cellAt, recordAt, changeAt, taskAt, linkAt, maxTasks, maxRecords, maxChanges, maxList, maxFields}
-use Rattle.rules.specs.Access.{changeOf}
+use Rattle.rules.specs.Places.{changeOf}
 use Rattle.rules.specs.Claim.{Claim, always, less, known, holds, _&_, each, when, test, Says}
 
 -- from 1 to most

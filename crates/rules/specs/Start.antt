@@ -6,7 +6,7 @@ use lib.ListN.{getD, set}
 use lib.Dec.{eqb, ltb}
 use Rattle.rules.specs.Words.{InProgress, Change, Own, Place, L1, H1, Vlx, Read, Machine}
 use Rattle.rules.specs.Words.{Ask, AskLlx, AskScx, AskVlx, AskRead, AskStep}
-use Rattle.table.specs.Table.{pick, tabulate, cellAt, taskAt, linkAt, maxList}
+use Rattle.table.specs.Table.{pick, tabulate, cellAt, taskAt, linkAt, remade, maxList}
 use Rattle.rules.specs.Step.{dropFirst}
 
 -- the set R of an SCX, a bit for each place, as the bools of places 0 to 3
@@ -16,27 +16,11 @@ places r = eqb (r % 2) 1 ∷ eqb (r / 2 % 2) 1 ∷ eqb (r / 4 % 2) 1 ∷ eqb (r 
 -- a task put at a place, with a list; its links to the first n of a list dropped
 abbrev pub atPlace : Machine → ℕ → Place → List ℕ → Machine
 atPlace m t q l =
-    record {
-      p = m .p;
-      n = m .n;
-      used = m .used;
-      records = m .records;
-      changes = m .changes;
-      tasks = set (m .tasks) t (record { place = q; cells = taskAt m t .cells; list = l });
-      links = m .links;
-    }
+    let tasks = set (m .tasks) t (record { place = q; cells = taskAt m t .cells; list = l }) in
+    remade m (m .used) (m .records) (m .changes) tasks (m .links)
 
 abbrev pub dropping : Machine → ℕ → List ℕ → ℕ → Machine
-dropping m t l n =
-    record {
-      p = m .p;
-      n = m .n;
-      used = m .used;
-      records = m .records;
-      changes = m .changes;
-      tasks = m .tasks;
-      links = dropFirst (m .links) t l n;
-    }
+dropping m t l n = remade m (m .used) (m .records) (m .changes) (m .tasks) (dropFirst (m .links) t l n)
 
 -- "fills the change from the links": the infos and the old cell are those of the task's links to V; infos past n are 0
 abbrev pub filled : Machine → ℕ → ℕ → List ℕ → ℕ → ℕ → ℕ → ℕ → Change
@@ -56,16 +40,7 @@ filled m t n l r written field new =
 
 -- "takes the next number"
 abbrev pub taking : Machine → Change → Machine
-taking m x =
-    record {
-      p = m .p;
-      n = m .n;
-      used = m .used + 1;
-      records = m .records;
-      changes = set (m .changes) (m .used + 1) x;
-      tasks = m .tasks;
-      links = m .links;
-    }
+taking m x = remade m (m .used + 1) (m .records) (set (m .changes) (m .used + 1) x) (m .tasks) (m .links)
 
 -- task t starts an operation with the list l; a STEP is no start
 unfoldable pub start : Machine → ℕ → Ask → List ℕ → Machine

@@ -4,10 +4,9 @@ use mathlib.Core.Bool.{true, false}
 use mathlib.Core.List.{List}
 use lib.ListN.{getD, set}
 use Rattle.rules.specs.Words.{Access, Task, Link, Machine, Seen, Move, Out}
-use Rattle.table.specs.Table.{pick, noCells, noLink, changeAt, taskAt, slot, linkAt}
-use Rattle.rules.specs.Access.{changeOf, accessOf}
+use Rattle.table.specs.Table.{pick, noCells, noLink, changeAt, taskAt, slot, linkAt, remade}
+use Rattle.rules.specs.Places.{changeOf, accessOf, resume}
 use Rattle.rules.specs.Perform.{recordOf, seen, perform}
-use Rattle.rules.specs.Resume.{resume}
 
 -- the task after it: at the new place, the cell seen kept as its field
 abbrev pub taskBy : Task → Seen → Move → Task
@@ -32,15 +31,9 @@ dropFirst ls t l (suc n) =
 -- the local work put in place: the task, the link to record r, and the links dropped
 unfoldable pub settle : Machine → ℕ → ℕ → Seen → Move → Machine
 settle m t r s v =
-    record {
-      p = m .p;
-      n = m .n;
-      used = m .used;
-      records = m .records;
-      changes = m .changes;
-      tasks = set (m .tasks) t (taskBy (taskAt m t) s v);
-      links = dropFirst (set (m .links) (slot t r) (linkBy (linkAt m t r) (taskAt m t) s v)) t (taskAt m t .list) (v .drop);
-    }
+    let tasks = set (m .tasks) t (taskBy (taskAt m t) s v) in
+    let links = dropFirst (set (m .links) (slot t r) (linkBy (linkAt m t r) (taskAt m t) s v)) t (taskAt m t .list) (v .drop) in
+    remade m (m .used) (m .records) (m .changes) tasks links
 
 -- the access of task t, and the work that rides on it
 unfoldable pub accessAt : Machine → ℕ → Access

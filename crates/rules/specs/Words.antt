@@ -9,6 +9,8 @@ pub use Rattle.table.specs.declared.After.the-variants.{Own, AtL8, AtL11}
 pub use Rattle.table.specs.declared.Place.{Place}
 pub use Rattle.table.specs.declared.Place.the-variants.{Idle, L1, L2, L3, L4, L5, L6, L7, L8, L9, L10, L11}
 pub use Rattle.table.specs.declared.Place.the-variants.{H1, H2, H3, H4, H5, H6, H7, H8, Vlx, Read}
+pub use Rattle.table.specs.declared.Operation.{Operation}
+pub use Rattle.table.specs.declared.Operation.the-variants.{None as InNone, Llx as InLlx, Scx as InScx, Vlx as InVlx, Read as InRead}
 pub use Rattle.table.specs.declared.Task.{Task}
 pub use Rattle.table.specs.declared.Link.{Link}
 pub use Rattle.table.specs.declared.Machine.{Machine}

@@ -22,9 +22,10 @@ use Rattle.exact.proofs.Hand.{turn-is}
 use Rattle.event.specs.Event.{eventAt}
 use Rattle.hand.specs.Hand.{turnIn}
 use Rattle.tally.specs.declared.Tally.{Tally}
-use Rattle.tally.specs.declared.Operation.{Operation}
-use Rattle.tally.specs.declared.Operation.the-variants.{None, Llx, Scx, Vlx, Read}
-use Rattle.tally.specs.Count.{operationOf, countedOf, tallyOf, firstOf}
+use Rattle.table.specs.declared.Operation.{Operation}
+use Rattle.table.specs.declared.Operation.the-variants.{None, Llx, Scx, Vlx, Read}
+use Rattle.rules.specs.Places.{operationOf}
+use Rattle.tally.specs.Count.{countedOf, tallyOf, firstOf}
 use Rattle.tally.proofs.Counting.{counted-next, first-none}
 use Rattle.lines.specs.Lines.{answerLine}
 use Rattle.play.specs.Play.{turnsTo, turnAt, toldIn, lineIn}

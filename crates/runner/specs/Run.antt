@@ -14,7 +14,8 @@ use Rattle.sheet.specs.declared.Sheet.the-variants.{Read, Refused}
 use Rattle.event.specs.Event.{eventAt}
 use Rattle.sheet.specs.Layout.{eventsPart, partsOf, sheetOf}
 use Rattle.tally.specs.declared.Told.{Told}
-use Rattle.tally.specs.Count.{operationOf, tallyOf, firstOf}
+use Rattle.rules.specs.Places.{operationOf}
+use Rattle.tally.specs.Count.{tallyOf, firstOf}
 use Rattle.text.specs.Text.{joined}
 use Rattle.lines.specs.Lines.{answerLine, recordLine, tallyLine, refusalLine}
 use Rattle.runner.specs.declared.Ran.{Ran}

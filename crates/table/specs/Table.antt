@@ -82,6 +82,10 @@ slot t r = t * maxRecords + r
 abbrev pub linkAt : Machine → ℕ → ℕ → Link
 linkAt m t r = getD (m .links) (slot t r) noLink
 
+-- the table m with another used count and with other records, changes, tasks and links
+abbrev pub remade : Machine → ℕ → List Record → List Change → List Task → List Link → Machine
+remade m used rs xs ts ls = record { p = m .p; n = m .n; used = used; records = rs; changes = xs; tasks = ts; links = ls }
+
 -- "Number 0 is the dummy: its state is always Aborted", whatever stands in entry 0
 abbrev pub stateOf : ℕ → Change → State
 stateOf u ch = pick (eqb u 0) Aborted (ch .state)

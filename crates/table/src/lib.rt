@@ -79,6 +79,15 @@ pub enum Place {
     Read { r: u8, f: u8 },
 }
 
+// Which operation a task is in.
+pub enum Operation {
+    None,
+    Llx,
+    Scx,
+    Vlx,
+    Read,
+}
+
 // A task: its place, the cells that an LLX has read so far, the list of a VLX.
 pub struct Task {
     pub place: Place,

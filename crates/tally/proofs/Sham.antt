@@ -8,7 +8,7 @@ use mathlib.Core.Logic.{_≢_}
 use mathlib.Core.List.{List, [], _∷_}
 use mathlib.Core.Bool.{Bool}
 use Rattle.table.specs.declared.Answer.the-variants.{Yes}
-use Rattle.tally.specs.declared.Operation.the-variants.{Scx, Vlx}
+use Rattle.table.specs.declared.Operation.the-variants.{Scx, Vlx}
 use Rattle.tally.specs.declared.Tally.{Tally}
 use Rattle.tally.specs.declared.Told.{Told}
 use Rattle.tally.specs.Count.{isYes, isNo, isFail, counts, tallyOf, oneMore, countedOf}

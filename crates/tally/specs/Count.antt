@@ -4,48 +4,12 @@ use Prim.Native.Nat.{ℕ, zero, suc, _+_, _%_, _^_}
 use mathlib.Core.List.{List, [], _∷_, _++_}
 use mathlib.Core.Bool.{Bool, true, false}
 use Rattle.table.specs.Table.{pick}
-use Rattle.table.specs.declared.After.{After}
-use Rattle.table.specs.declared.After.the-variants.{Own, AtL8, AtL11}
-use Rattle.table.specs.declared.Place.{Place}
-use Rattle.table.specs.declared.Place.the-variants.{Idle, L1, L2, L3, L4, L5, L6, L7, L8, L9, L10, L11}
-use Rattle.table.specs.declared.Place.the-variants.{H1, H2, H3, H4, H5, H6, H7, H8, Vlx as AtVlx, Read as AtRead}
 use Rattle.table.specs.declared.Answer.{Answer}
 use Rattle.table.specs.declared.Answer.the-variants.{Accepted, Snapshot, Finalized, Fail, Yes, No, Value, Refused}
 use Rattle.tally.specs.declared.Tally.{Tally}
-use Rattle.tally.specs.declared.Operation.{Operation}
-use Rattle.tally.specs.declared.Operation.the-variants.{None, Llx, Scx, Vlx, Read}
+use Rattle.table.specs.declared.Operation.{Operation}
+use Rattle.table.specs.declared.Operation.the-variants.{None, Llx, Scx, Vlx, Read}
 use Rattle.tally.specs.declared.Told.{Told}
-
--- who helps its own change is in an SCX, who helps from L8 or L11 in an LLX
-abbrev pub helpingOf : After → Operation
-helpingOf Own = Scx
-helpingOf (AtL8 r m1) = Llx
-helpingOf AtL11 = Llx
-
--- the operation that a task at a place is in
-abbrev pub operationOf : Place → Operation
-operationOf Idle = None
-operationOf (L1 r) = Llx
-operationOf (L2 r m1) = Llx
-operationOf (L3 r m1 a) = Llx
-operationOf (L4 r m1 a s) = Llx
-operationOf (L5 r m1 a f) = Llx
-operationOf (L6 r m1 a) = Llx
-operationOf (L7 r m1 a) = Llx
-operationOf (L8 r m1 a) = Llx
-operationOf (L9 r) = Llx
-operationOf (L10 r b) = Llx
-operationOf (L11 r) = Llx
-operationOf (H1 u i after) = helpingOf after
-operationOf (H2 u i after) = helpingOf after
-operationOf (H3 u after) = helpingOf after
-operationOf (H4 u after) = helpingOf after
-operationOf (H5 u after) = helpingOf after
-operationOf (H6 u i after) = helpingOf after
-operationOf (H7 u after) = helpingOf after
-operationOf (H8 u after) = helpingOf after
-operationOf (AtVlx n i) = Vlx
-operationOf (AtRead r f) = Read
 
 -- one of four by the answer: yes, no, Fail, any other
 abbrev pub byAnswer : {A : Type 0} → A → A → A → A → Answer → A

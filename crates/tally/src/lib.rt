@@ -1,10 +1,12 @@
 // The tally of the last line `T`: changes made, SCX that answered no, LLX that answered Fail. Every answer brings it up to date.
 ghost use mathlib.Core.Path.{_≡_};
 ghost use mathlib.Core.List.{[]};
-ghost use Rattle.tally.specs.Count.{helpingOf, operationOf, tallyOf, countedOf};
-ghost use Rattle.tally.specs.declared.Operation.the-variants.{Llx, Scx};
+ghost use Rattle.table.specs.declared.Operation.the-variants.{Llx, Scx};
+ghost use Rattle.rules.specs.Places.{helpingOf, operationOf};
+ghost use Rattle.tally.specs.Count.{tallyOf, countedOf};
 use table::After;
 use table::Answer;
+use table::Operation;
 use table::Place;
 
 // The three numbers of `T`.
@@ -15,15 +17,6 @@ pub struct Tally {
     pub no: u16,
     // LLX that answered Fail
     pub fail: u16,
-}
-
-// Which operation a task is in.
-pub enum Operation {
-    None,
-    Llx,
-    Scx,
-    Vlx,
-    Read,
 }
 
 // What an event told: the operation that its task was in before the call, and the answer.
