@@ -20,7 +20,7 @@ use Rattle.clauses.proofs.Rights.{st?, lost-frozen}
 use Rattle.clauses.proofs.Frame.{same-terms, stay-mark, stay-held}
 use Rattle.clauses.proofs.Steps.{is-stored, is-old}
 use Rattle.clauses.proofs.SameCell.{same-eq, eq-same}
-use Rattle.clauses.proofs.FirstFrom.{first}
+use Rattle.rules.proofs.FirstFrom.{first-from}
 use Rattle.clauses.proofs.Advanced.{Leads, by-none, none-below, acts, reads}
 
 -- the next place, whatever it is, names the same change
@@ -71,11 +71,11 @@ module _ (S : Shared) (G : Ghost) (cs : List Cell) (u : ℕ) (w : After) where
   at-mark r i same inside few z f m = go (ltb (firstFrom r i) 4) refl
     where
       to : MarkedTo S (S .terms u) (firstFrom r i)
-      to j l c = ⊎-elim (λ (p : i ≤ j). tf (same j ∙ c) (first r i .none j (omega arith) p l)) (λ p. m j p c) (leb-case i j)
+      to j l c = ⊎-elim (λ (p : i ≤ j). tf (same j ∙ c) (first-from r i .none j (omega arith) p l)) (λ p. m j p c) (leb-case i j)
 
       go : (b : Bool) → ltb (firstFrom r i) 4 ≡ b → At S G cs (pick b (H6 u (firstFrom r i) w) (H7 u w))
       go true q =
-          let found = first r i .found (ltb-true _ 4 q) in
+          let found = first-from r i .found (ltb-true _ 4 q) in
           (z, f, inside _ (ltb-true _ 4 q) found, sym (same _) ∙ found, to)
       go false q = (z, f, λ j l. to j (omega (arith, ltb-false (firstFrom r i) 4 q)))
 

@@ -22,7 +22,6 @@ pub mod Sentences
 pub mod Closed
 pub mod Origins
 pub mod Advanced
-pub mod FirstFrom
 pub mod SameCell
 pub mod ReadsOn
 pub mod HelpsOn

@@ -7,7 +7,7 @@ use mathlib.Core.Path.{_≡_, refl}
 use mathlib.Core.Bool.{Bool, true, false, false≢true}
 use mathlib.Core.List.{List}
 use lib.ListN.{getD, set}
-use lib.Dec.{ltb, leb, eqb, lit<}
+use lib.Dec.{ltb, eqb, lit<}
 use borrow.Author.Tests.{ltb-true, ltb-false, eqb-false}
 use Rattle.rules.specs.Words.{Cell, State, InProgress, Committed, Aborted, Change, After, Own, AtL8, AtL11, Machine}
 use Rattle.rules.specs.Words.{Answer, Fail, Yes, Seen, Move}
@@ -19,23 +19,10 @@ use Rattle.keeps.proofs.Acts.{Claimed, seenFrom}
 use Rattle.table.specs.Table.{pick, noCell, recordAt, changeAt, stateOf}
 use Rattle.rules.specs.Places.{changeOf, resume}
 use Rattle.rules.specs.Resume.{on, onWith, done, snapshot, noAndDrop, afterL4, afterL5, afterL6, afterL7, afterL8, afterL10, afterL11}
-use Rattle.rules.specs.Resume.{verdict, afterHeld, isFrom, firstFrom, atMark, afterVlx}
+use Rattle.rules.specs.Resume.{verdict, afterHeld, firstFrom, atMark, afterVlx}
+use Rattle.rules.proofs.FirstFrom.{first-from}
 use Rattle.rules.specs.Claim.{Says}
 use Rattle.rules.specs.Shape.{stampsKnown, afterFine}
-
--- the first place of R that is found is in R
-abbrev In : List Bool → ℕ → Type 0
-In r x = ltb x 4 ≡ true → getD r x false ≡ true
-
-from-is : (i k : ℕ) (b : Bool) → isFrom i k b ≡ true → b ≡ true
-from-is i k b = picked (λ x. x ≡ true → b ≡ true) (leb i k) b false (λ e q. q) (λ e q. absurd (false≢true q))
-
-first-in : (r : List Bool) (i : ℕ) → In r (firstFrom r i)
-first-in r i =
-    picked (In r) (isFrom i 0 (getD r 0 false)) _ _ (λ e q. from-is i 0 _ e)
-    (λ e. picked (In r) (isFrom i 1 (getD r 1 false)) _ _ (λ e q. from-is i 1 _ e)
-    (λ e. picked (In r) (isFrom i 2 (getD r 2 false)) _ _ (λ e q. from-is i 2 _ e)
-    (λ e. picked (In r) (isFrom i 3 (getD r 3 false)) _ _ (λ e q. from-is i 3 _ e) (λ e q. absurd (false≢true q)))))
 
 -- a change in progress is not the dummy
 above : (a : ℕ) (ch : Change) → stateOf a ch ≡ InProgress → 0 < a
@@ -142,11 +129,11 @@ module _ (m : Machine) (F : Fine m) (linked : ℕ → Bool) (cs : List Cell) (l 
       (picked C b (afterHeld u i n after) q
       (λ e. picked C (ltb (i + 1) n) (H1 u (i + 1) after) (H5 u after) (λ f. (ltb-true (i + 1) n f, h)) (λ f. h)) (λ e. k))
 
-  after-mark : {s : Seen} (u i : ℕ) (after : After) → In (changeAt m u .r) i → Claimed m linked cs l (H5 u after) → Moved s (on (atMark u i after))
+  after-mark : {s : Seen} (u i : ℕ) (after : After) → (i < 4 → getD (changeAt m u .r) i false ≡ true) → Claimed m linked cs l (H5 u after) → Moved s (on (atMark u i after))
   after-mark {s} u i after q h =
       on-fine (atMark u i after)
       (picked (Claimed m linked (set cs 4 (s .cell)) l) (ltb i 4) (H6 u i after) (H7 u after)
-      (λ e. (F .change-fine u (h .0) (h .1 .0) .1 .0 i (ltb-true i 4 e) (q e), (q e, h))) (λ e. h))
+      (λ e. let l = ltb-true i 4 e in (F .change-fine u (h .0) (h .1 .0) .1 .0 i l (q l), (q l, h))) (λ e. h))
 
   after-vlx : {s : Seen} (n i now info : ℕ) → Claimed m linked cs l (Vlx n i) → Moved s (afterVlx n i now info)
   after-vlx {s} n i now info h =
@@ -180,8 +167,8 @@ module _ (m : Machine) (F : Fine m) (linked : ℕ → Bool) (cs : List Cell) (l 
       picked (Moved _) (changeAt m u .frozen) (verdict true after) (on (H4 u after))
       (λ e. verdict-fine true after (h .1 .1)) (λ e. on-fine (H4 u after) h)
   moves info (H4 u after) h = verdict-fine false after (h .1 .1)
-  moves info (H5 u after) h = after-mark u (firstFrom (changeAt m u .r) 0) after (first-in (changeAt m u .r) 0) h
-  moves info (H6 u i after) h = after-mark u (firstFrom (changeAt m u .r) (i + 1)) after (first-in (changeAt m u .r) (i + 1)) (h .1 .1)
+  moves info (H5 u after) h = after-mark u (firstFrom (changeAt m u .r) 0) after (first-from (changeAt m u .r) 0 .found) h
+  moves info (H6 u i after) h = after-mark u (firstFrom (changeAt m u .r) (i + 1)) after (first-from (changeAt m u .r) (i + 1) .found) (h .1 .1)
   moves info (H7 u after) h = on-fine (H8 u after) h
   moves info (H8 u after) h = verdict-fine true after (h .1 .1)
   moves info (Vlx n i) h = after-vlx n i (recordAt m (getD l i 0) .info) info h

@@ -9,7 +9,7 @@ use Rattle.rules.specs.Words.{Cell, Place, Idle, L1, L2, L3, L4, L5, L6, L7, L8
 use Rattle.rules.specs.Places.{changeOf}
 use Rattle.rules.specs.Claim.{Says}
 use Rattle.rules.specs.Shape.{placeFine}
-use Rattle.rules.proofs.Exact.{more}
+use Rattle.rules.proofs.Exact.{stands}
 
 module _ (used N n : ℕ) (R : List Bool) (linked : ℕ → Bool) (cs : List Cell) (l : List ℕ) where
   pub named : (q : Place) → Says used (placeFine N n R linked cs l q) → changeOf q ≤ used
@@ -65,4 +65,4 @@ module _ (used N n : ℕ) (R : List Bool) (linked : ℕ → Bool) (cs : List Cel
       → ((r : ℕ) → r < N → linked r ≡ true → linked' r ≡ true)
       → (q : Place) → Says used (placeFine N n R linked cs l q) → Says later (placeFine N n' R' linked' cs l q)
   stays later n' R' linked' ul en er k q h =
-      rw (en, er) (more used later ul (placeFine N n R linked' cs l q) (relinked linked' k q h))
+      rw (en, er) (stands used later ul (placeFine N n R linked' cs l q) (relinked linked' k q h))

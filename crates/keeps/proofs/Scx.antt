@@ -22,7 +22,7 @@ use Rattle.rules.specs.Start.{filled, start}
 use Rattle.rules.specs.Claim.{Says}
 use Rattle.rules.specs.Shape.{recordFine, stampsKnown, changeFine, linkFine, listFine}
 use Rattle.rules.specs.Refuse.{inside}
-use Rattle.rules.proofs.Exact.{more}
+use Rattle.rules.proofs.Exact.{stands}
 
 module _ (m : Machine) (F : Fine m) (t : ℕ) (tl : t < m .p) (n r written field new : ℕ) (l : List ℕ)
     (list : Says 0 (listFine (m .n) n l)) (in-list : Says 0 (inside n r written field))
@@ -70,15 +70,15 @@ module _ (m : Machine) (F : Fine m) (t : ℕ) (tl : t < m .p) (n r written field
       record {
         more-used = one-more;
         used<256 = omega arith;
-        records = λ r rl. more (m .used) next-number one-more (recordFine (recordAt m r)) (F .record-fine r rl);
+        records = λ r rl. stands (m .used) next-number one-more (recordFine (recordAt m r)) (F .record-fine r rl);
         changes = λ u u0 ul. placed (λ (x : Change). Says next-number (changeFine (m .n) x)) (m .changes) next-number change noChange u
             (λ e. change-filled) room
-            (λ d. more (m .used) next-number one-more (changeFine (m .n) (changeAt m u)) (F .change-fine u u0 (omega arith)));
+            (λ d. stands (m .used) next-number one-more (changeFine (m .n) (changeAt m u)) (F .change-fine u u0 (omega arith)));
         same-n = λ u ul. ap (λ (x : Change). x .n) (others u (λ e. omega arith));
         same-r = λ u ul. ap (λ (x : Change). x .r) (others u (λ e. omega arith));
         task = (filled-first, (omega arith, (le-refl next-number, tt)));
         others = λ j d r rl h. rw (others-stay m F t tl l n (list .1 .0) j d r rl) h;
-        links = λ j jl r rl. more (m .used) next-number one-more (linkFine (getD links (slot j r) noLink))
+        links = λ j jl r rl. stands (m .used) next-number one-more (linkFine (getD links (slot j r) noLink))
             (links-fine m F t tl l n (list .1 .0) j jl r rl);
       }
 

@@ -12,14 +12,14 @@ use Rattle.rules.specs.Shape.{within}
 use Rattle.rules.proofs.Exact.{both-on, all-is, told}
 
 -- the loop's invariant at i, on its way to n
-abbrev pub Passed : ℕ → ℕ → (ℕ → Bool) → Type 0
-Passed n i f = (i ≤ n) × (allBelow i f ≡ true)
+abbrev pub SoFar : ℕ → ℕ → (ℕ → Bool) → Type 0
+SoFar n i f = (i ≤ n) × (allBelow i f ≡ true)
 
-pub none-yet : (n : ℕ) (f : ℕ → Bool) → Passed n 0 f
+pub none-yet : (n : ℕ) (f : ℕ → Bool) → SoFar n 0 f
 unfolding allBelow
 none-yet n f = (omega arith, refl)
 
-pub one-more : (n i : ℕ) (f : ℕ → Bool) → Passed n i f → i < n → f i ≡ true → Passed n (i + 1) f
+pub one-more : (n i : ℕ) (f : ℕ → Bool) → SoFar n i f → i < n → f i ≡ true → SoFar n (i + 1) f
 unfolding allBelow
 one-more n i f p l e = (omega arith, rw add-one (both-on (allBelow i f) (f i) (p .1) e))
 
@@ -30,7 +30,7 @@ one-fails n i f l e = go (allBelow n f) refl
     go false h = refl
     go true h = absurd (false≢true (sym e ∙ all-is n f h i l))
 
-pub all-passed : (n i : ℕ) (f : ℕ → Bool) → Passed n i f → n ≤ i → true ≡ allBelow n f
+pub all-passed : (n i : ℕ) (f : ℕ → Bool) → SoFar n i f → n ≤ i → true ≡ allBelow n f
 all-passed n i f p l = rw (le-antisymm l (p .0)) (sym (p .1))
 
 -- an answer o, which is b, tested as `!o`

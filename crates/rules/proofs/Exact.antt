@@ -54,11 +54,11 @@ passes used (when true x) h = passes used x (h refl)
 passes used (when false x) h = refl
 
 -- more numbers used, and the claim stands
-pub more : (used later : ℕ) → used ≤ later → (x : Claim) → Says used x → Says later x
-more used later l always h = tt
-more used later l (less a b) h = h
-more used later l (known u) h = le-trans h l
-more used later l (holds b) h = h
-more used later l (x & y) h = (more used later l x (h .0), more used later l y (h .1))
-more used later l (each n f) h = λ k q. more used later l (f k) (h k q)
-more used later l (when b x) h = λ e. more used later l x (h e)
+pub stands : (used later : ℕ) → used ≤ later → (x : Claim) → Says used x → Says later x
+stands used later l always h = tt
+stands used later l (less a b) h = h
+stands used later l (known u) h = le-trans h l
+stands used later l (holds b) h = h
+stands used later l (x & y) h = (stands used later l x (h .0), stands used later l y (h .1))
+stands used later l (each n f) h = λ k q. stands used later l (f k) (h k q)
+stands used later l (when b x) h = λ e. stands used later l x (h e)

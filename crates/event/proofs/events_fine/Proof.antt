@@ -2,13 +2,13 @@
 use Prim.Native.Nat.{_-_}
 use native.Mathlib.Omega.{arith}
 use borrow.Author.Needs.{needs}
-use Rattle.lists.proofs.Laws.{Passed, none-yet, one-more, one-fails, all-passed, said-yes, said-no}
+use Rattle.lists.proofs.Laws.{SoFar, none-yet, one-more, one-fails, all-passed, said-yes, said-no}
 use Rattle.event.specs.Event.{eventFine, eventBytes, eventsFine}
 use Rattle.event.proofs.events_fine.Statement.{statement}
 use Rattle.event.proofs.events_fine.Tie as tie
 
 abbrev Inv-loop : tie.InvT-loop
-Inv-loop events count i₀ i = Passed count i (λ k. eventFine (eventBytes events k))
+Inv-loop events count i₀ i = SoFar count i (λ k. eventFine (eventBytes events k))
 
 abbrev μ-loop : tie.MeasureT-loop
 μ-loop events count i₀ i = count - i

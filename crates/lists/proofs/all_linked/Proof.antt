@@ -4,12 +4,12 @@ use native.Mathlib.Omega.{arith}
 use mathlib.Core.Bool.{false}
 use lib.ListN.{getD}
 use borrow.Author.Needs.{needs}
-use Rattle.lists.proofs.Laws.{Passed, none-yet, one-more, one-fails, all-passed, said-yes, said-no}
+use Rattle.lists.proofs.Laws.{SoFar, none-yet, one-more, one-fails, all-passed, said-yes, said-no}
 use Rattle.lists.proofs.all_linked.Statement.{statement}
 use Rattle.lists.proofs.all_linked.Tie as tie
 
 abbrev Inv-loop : tie.InvT-loop
-Inv-loop n there i₀ i = Passed n i (λ k. getD there k false)
+Inv-loop n there i₀ i = SoFar n i (λ k. getD there k false)
 
 abbrev μ-loop : tie.MeasureT-loop
 μ-loop n there i₀ i = n - i

@@ -6,12 +6,12 @@ use lib.ListN.{getD}
 use lib.Dec.{eqb}
 use borrow.Author.Needs.{needs}
 use Rattle.rules.specs.Claim.{allBelow}
-use Rattle.lists.proofs.Laws.{Passed, none-yet, one-more, one-fails, all-passed, said-yes, said-no}
+use Rattle.lists.proofs.Laws.{SoFar, none-yet, one-more, one-fails, all-passed, said-yes, said-no}
 use Rattle.lists.proofs.apart.Statement.{statement}
 use Rattle.lists.proofs.apart.Tie as tie
 
 abbrev Inv-loop : tie.InvT-loop
-Inv-loop n list i₀ i = Passed n i (λ k. allBelow k (λ h. not (eqb (getD list h 0) (getD list k 0))))
+Inv-loop n list i₀ i = SoFar n i (λ k. allBelow k (λ h. not (eqb (getD list h 0) (getD list k 0))))
 
 abbrev μ-loop : tie.MeasureT-loop
 μ-loop n list i₀ i = n - i

@@ -5,12 +5,12 @@ use lib.ListN.{getD}
 use lib.Dec.{ltb}
 use borrow.Author.Tests.{lt-ltb, le-ltb}
 use borrow.Author.Needs.{needs}
-use Rattle.lists.proofs.Laws.{Passed, none-yet, one-more, one-fails, all-passed}
+use Rattle.lists.proofs.Laws.{SoFar, none-yet, one-more, one-fails, all-passed}
 use Rattle.lists.proofs.exist.Statement.{statement}
 use Rattle.lists.proofs.exist.Tie as tie
 
 abbrev Inv-loop : tie.InvT-loop
-Inv-loop records n list i₀ i = Passed n i (λ k. ltb (getD list k 0) records)
+Inv-loop records n list i₀ i = SoFar n i (λ k. ltb (getD list k 0) records)
 
 abbrev μ-loop : tie.MeasureT-loop
 μ-loop records n list i₀ i = n - i

@@ -6,12 +6,12 @@ use lib.ListN.{getD}
 use lib.Dec.{ltb}
 use borrow.Author.Needs.{needs}
 use Rattle.rules.specs.Claim.{given}
-use Rattle.lists.proofs.Laws.{Passed, none-yet, one-more, one-fails, all-passed, said-yes, said-no}
+use Rattle.lists.proofs.Laws.{SoFar, none-yet, one-more, one-fails, all-passed, said-yes, said-no}
 use Rattle.lists.proofs.in_list.Statement.{statement}
 use Rattle.lists.proofs.in_list.Tie as tie
 
 abbrev Inv-loop : tie.InvT-loop
-Inv-loop n r i₀ i = Passed 4 i (λ k. given (getD r k false) (ltb k n))
+Inv-loop n r i₀ i = SoFar 4 i (λ k. given (getD r k false) (ltb k n))
 
 abbrev μ-loop : tie.MeasureT-loop
 μ-loop n r i₀ i = 4 - i

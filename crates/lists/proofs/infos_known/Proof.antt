@@ -5,12 +5,12 @@ use lib.ListN.{getD}
 use lib.Dec.{leb}
 use borrow.Author.Tests.{lt-leb, le-leb}
 use borrow.Author.Needs.{needs}
-use Rattle.lists.proofs.Laws.{Passed, none-yet, one-more, one-fails, all-passed}
+use Rattle.lists.proofs.Laws.{SoFar, none-yet, one-more, one-fails, all-passed}
 use Rattle.lists.proofs.infos_known.Statement.{statement}
 use Rattle.lists.proofs.infos_known.Tie as tie
 
 abbrev Inv-loop : tie.InvT-loop
-Inv-loop used n infos i₀ i = Passed n i (λ k. leb (getD infos k 0) used)
+Inv-loop used n infos i₀ i = SoFar n i (λ k. leb (getD infos k 0) used)
 
 abbrev μ-loop : tie.MeasureT-loop
 μ-loop used n infos i₀ i = n - i

@@ -7,12 +7,12 @@ use lib.ListN.{getD}
 use lib.Dec.{eqb}
 use borrow.Author.Tests.{eq-eqb, ne-eqb}
 use borrow.Author.Needs.{needs}
-use Rattle.lists.proofs.Laws.{Passed, none-yet, one-more, one-fails, all-passed}
+use Rattle.lists.proofs.Laws.{SoFar, none-yet, one-more, one-fails, all-passed}
 use Rattle.lists.proofs.is_new.Statement.{statement}
 use Rattle.lists.proofs.is_new.Tie as tie
 
 abbrev Inv-loop : tie.InvT-loop
-Inv-loop j list i₀ i = Passed j i (λ k. not (eqb (getD list k 0) (getD list j 0)))
+Inv-loop j list i₀ i = SoFar j i (λ k. not (eqb (getD list k 0) (getD list j 0)))
 
 abbrev μ-loop : tie.MeasureT-loop
 μ-loop j list i₀ i = j - i

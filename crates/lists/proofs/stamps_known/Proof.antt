@@ -5,12 +5,12 @@ use lib.Dec.{leb}
 use borrow.Author.Tests.{lt-leb, le-leb}
 use borrow.Author.Needs.{needs}
 use Rattle.table.specs.Table.{cellAt}
-use Rattle.lists.proofs.Laws.{Passed, none-yet, one-more, one-fails, all-passed}
+use Rattle.lists.proofs.Laws.{SoFar, none-yet, one-more, one-fails, all-passed}
 use Rattle.lists.proofs.stamps_known.Statement.{statement}
 use Rattle.lists.proofs.stamps_known.Tie as tie
 
 abbrev Inv-loop : tie.InvT-loop
-Inv-loop used k cells i₀ i = Passed k i (λ j. leb (cellAt cells j .stamp) used)
+Inv-loop used k cells i₀ i = SoFar k i (λ j. leb (cellAt cells j .stamp) used)
 
 abbrev μ-loop : tie.MeasureT-loop
 μ-loop used k cells i₀ i = k - i

@@ -6,12 +6,12 @@ use borrow.Author.Needs.{needs}
 use Rattle.table.specs.Table.{changeAt}
 use Rattle.rules.specs.Claim.{test}
 use Rattle.rules.specs.Shape.{changeFine}
-use Rattle.lists.proofs.Laws.{Passed, none-yet, one-more, one-fails, all-passed, said-yes, said-no}
+use Rattle.lists.proofs.Laws.{SoFar, none-yet, one-more, one-fails, all-passed, said-yes, said-no}
 use Rattle.shape.proofs.changes_fine.Statement.{statement}
 use Rattle.shape.proofs.changes_fine.Tie as tie
 
 abbrev Inv-loop : tie.InvT-loop
-Inv-loop m i₀ i = Passed (m .used) i (λ k. test (m .used) (changeFine (m .n) (changeAt m (suc k))))
+Inv-loop m i₀ i = SoFar (m .used) i (λ k. test (m .used) (changeFine (m .n) (changeAt m (suc k))))
 
 abbrev μ-loop : tie.MeasureT-loop
 μ-loop m i₀ i = m .used - i

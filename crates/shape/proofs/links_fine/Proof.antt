@@ -5,12 +5,12 @@ use borrow.Author.Needs.{needs}
 use Rattle.table.specs.Table.{linkAt}
 use Rattle.rules.specs.Claim.{each, test}
 use Rattle.rules.specs.Shape.{linkFine}
-use Rattle.lists.proofs.Laws.{Passed, none-yet, one-more, one-fails, all-passed, said-yes, said-no}
+use Rattle.lists.proofs.Laws.{SoFar, none-yet, one-more, one-fails, all-passed, said-yes, said-no}
 use Rattle.shape.proofs.links_fine.Statement.{statement}
 use Rattle.shape.proofs.links_fine.Tie as tie
 
 abbrev Inv-loop : tie.InvT-loop
-Inv-loop m i₀ i = Passed (m .p) i (λ k. test (m .used) (each (m .n) (λ r. linkFine (linkAt m k r))))
+Inv-loop m i₀ i = SoFar (m .p) i (λ k. test (m .used) (each (m .n) (λ r. linkFine (linkAt m k r))))
 
 abbrev μ-loop : tie.MeasureT-loop
 μ-loop m i₀ i = m .p - i

@@ -5,12 +5,12 @@ use borrow.Author.Needs.{needs}
 use Rattle.table.specs.Table.{recordAt}
 use Rattle.rules.specs.Claim.{test}
 use Rattle.rules.specs.Shape.{recordFine}
-use Rattle.lists.proofs.Laws.{Passed, none-yet, one-more, one-fails, all-passed, said-yes, said-no}
+use Rattle.lists.proofs.Laws.{SoFar, none-yet, one-more, one-fails, all-passed, said-yes, said-no}
 use Rattle.shape.proofs.records_fine.Statement.{statement}
 use Rattle.shape.proofs.records_fine.Tie as tie
 
 abbrev Inv-loop : tie.InvT-loop
-Inv-loop m i₀ i = Passed (m .n) i (λ k. test (m .used) (recordFine (recordAt m k)))
+Inv-loop m i₀ i = SoFar (m .n) i (λ k. test (m .used) (recordFine (recordAt m k)))
 
 abbrev μ-loop : tie.MeasureT-loop
 μ-loop m i₀ i = m .n - i

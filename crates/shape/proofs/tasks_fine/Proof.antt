@@ -4,12 +4,12 @@ use native.Mathlib.Omega.{arith}
 use borrow.Author.Needs.{needs}
 use Rattle.rules.specs.Claim.{test}
 use Rattle.rules.specs.Shape.{taskFine}
-use Rattle.lists.proofs.Laws.{Passed, none-yet, one-more, one-fails, all-passed, said-yes, said-no}
+use Rattle.lists.proofs.Laws.{SoFar, none-yet, one-more, one-fails, all-passed, said-yes, said-no}
 use Rattle.shape.proofs.tasks_fine.Statement.{statement}
 use Rattle.shape.proofs.tasks_fine.Tie as tie
 
 abbrev Inv-loop : tie.InvT-loop
-Inv-loop m i₀ i = Passed (m .p) i (λ k. test (m .used) (taskFine m k))
+Inv-loop m i₀ i = SoFar (m .p) i (λ k. test (m .used) (taskFine m k))
 
 abbrev μ-loop : tie.MeasureT-loop
 μ-loop m i₀ i = m .p - i

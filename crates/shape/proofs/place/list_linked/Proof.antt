@@ -3,13 +3,13 @@ use Prim.Native.Nat.{_-_}
 use native.Mathlib.Omega.{arith}
 use lib.ListN.{getD}
 use borrow.Author.Needs.{needs}
-use Rattle.lists.proofs.Laws.{Passed, none-yet, one-more, one-fails, all-passed, said-yes, said-no}
+use Rattle.lists.proofs.Laws.{SoFar, none-yet, one-more, one-fails, all-passed, said-yes, said-no}
 use Rattle.shape.specs.Linked.{linkedIn}
 use Rattle.shape.proofs.place.list_linked.Statement.{statement}
 use Rattle.shape.proofs.place.list_linked.Tie as tie
 
 abbrev Inv-loop : tie.InvT-loop
-Inv-loop links t k list i₀ i = Passed k i (λ j. linkedIn links t (getD list j 0))
+Inv-loop links t k list i₀ i = SoFar k i (λ j. linkedIn links t (getD list j 0))
 
 abbrev μ-loop : tie.MeasureT-loop
 μ-loop links t k list i₀ i = k - i
