@@ -10,6 +10,10 @@ use Rattle.rules.specs.Claim.{both, allBelow, test}
 use Rattle.rules.specs.Shape.{within}
 use Rattle.rules.specs.Next.{llx, scx, vlx, read, stepping}
 
+-- "events, 12 bytes each"
+abbrev pub eventSize : ℕ
+eventSize = 12
+
 abbrev pub byte : List ℕ → ℕ → ℕ
 byte s i = getD s i 0
 
@@ -17,11 +21,8 @@ byte s i = getD s i 0
 abbrev pub pair : List ℕ → ℕ → ℕ
 pair s i = byte s i + 256 * byte s (i + 1)
 
--- EVENT, of 12 bytes: "byte 0 kind (1 LLX, 2 SCX, 3 VLX, 4 READ, 5 STEP), 1 task, 2 n, 3 to 6 the list, 7 the set R, 8 written place, 9 field, 10 and
+-- EVENT: "byte 0 kind (1 LLX, 2 SCX, 3 VLX, 4 READ, 5 STEP), 1 task, 2 n, 3 to 6 the list, 7 the set R, 8 written place, 9 field, 10 and
 -- 11 new value. LLX and READ have the record in byte 3."
-abbrev pub eventSize : ℕ
-eventSize = 12
-
 abbrev pub listOf : List ℕ → List ℕ
 listOf e = byte e 3 ∷ byte e 4 ∷ byte e 5 ∷ byte e 6 ∷ []
 

@@ -7,7 +7,7 @@ use lib.ListN.{getD, set}
 use lib.Seq.{set-getD}
 use Rattle.rules.specs.Words.{Machine, Record, Change, AskStep, Access, Seen, Move, Out}
 use Rattle.rules.specs.Words.{Place, Idle, L1, L2, L3, L4, L5, L6, L7, L8, L9, L10, L11, H1, H2, H3, H4, H5, H6, H7, H8, Vlx, Read}
-use Rattle.table.specs.Table.{pick, noCells, noChange, recordAt, changeAt, taskAt, slot, linkAt}
+use Rattle.table.specs.Table.{pick, noCells, noChange, recordAt, changeAt, taskAt, slot, linkAt, remade}
 use Rattle.rules.specs.Places.{changeOf, accessOf, resume}
 use Rattle.rules.specs.Perform.{recordOf, changeIn, seenBy, recordBy, changeBy, seen, perform}
 use Rattle.rules.specs.Step.{taskBy, linkBy, dropFirst, settle, accessAt, moveAt, step}
@@ -66,15 +66,8 @@ module _ (m : Machine) (t : ℕ) where
       let r = recordOf a in
       let v = work s in
       record {
-        m = record {
-          p = m .p;
-          n = m .n;
-          used = m .used;
-          records = set (m .records) r (recordBy a (recordAt m r));
-          changes = changes;
-          tasks = set (m .tasks) t (taskBy x s v);
-          links = dropFirst (set (m .links) (slot t r) (linkBy (linkAt m t r) x s v)) t l (v .drop);
-        };
+        m = let links = dropFirst (set (m .links) (slot t r) (linkBy (linkAt m t r) x s v)) t l (v .drop) in
+            remade m (m .used) (set (m .records) r (recordBy a (recordAt m r))) changes (set (m .tasks) t (taskBy x s v)) links;
         answer = v .answer;
         cells = pick (v .store) (x .cells) noCells;
       }

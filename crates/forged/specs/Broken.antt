@@ -9,7 +9,7 @@ use Rattle.rules.specs.Words.{State, InProgress, Committed, Aborted, Cell, Plac
 use Rattle.rules.specs.Words.{Access, Nothing, Hold, Write, Commit, Machine, Out, Call, Yes, OutOfShape, Snapshot, Idle}
 use Rattle.rules.specs.Words.{Ask, AskLlx, AskScx, AskVlx, AskRead, AskStep}
 use Rattle.rules.specs.Start.{atPlace}
-use Rattle.table.specs.Table.{pick, noCells, cellAt, recordAt, changeAt, taskAt, linkAt}
+use Rattle.table.specs.Table.{pick, noCells, cellAt, recordAt, changeAt, taskAt, linkAt, remade}
 use Rattle.rules.specs.Places.{changeOf, accessOf}
 use Rattle.rules.specs.Perform.{recordOf, sawBit, sawNumber}
 use Rattle.rules.specs.Resume.{on, verdict, firstFrom}
@@ -133,8 +133,7 @@ one-more =
 
 -- number 1 is given a second time
 abbrev pub unused : Machine → Machine
-unused m =
-    record { p = m .p; n = m .n; used = 0; records = m .records; changes = m .changes; tasks = m .tasks; links = m .links }
+unused m = remade m 0 (m .records) (m .changes) (m .tasks) (m .links)
 
 unfoldable pub twice-given : Machine → Call → Out
 twice-given m e = pick (pick (isScx (e .ask)) (eqb (m .used) 1) false) (started (unused m) (e .task) (e .ask) (e .list)) (next m e)
@@ -170,15 +169,8 @@ never-commits = doing (λ m q a. pick (isH 8 q) Nothing a)
 -- H8 lets go of the first record: its info is 0 again
 abbrev pub freed : Machine → ℕ → Machine
 freed m r =
-    record {
-      p = m .p;
-      n = m .n;
-      used = m .used;
-      records = set (m .records) r (record { cells = recordAt m r .cells; mark = recordAt m r .mark; info = 0 });
-      changes = m .changes;
-      tasks = m .tasks;
-      links = m .links;
-    }
+    let records = set (m .records) r (record { cells = recordAt m r .cells; mark = recordAt m r .mark; info = 0 }) in
+    remade m (m .used) records (m .changes) (m .tasks) (m .links)
 
 unfoldable pub lets-go : Machine → Call → Out
 lets-go =

@@ -5,7 +5,7 @@ use mathlib.Core.Path.{_≡_, refl, ap}
 use mathlib.Core.List.{List, [], _∷_}
 use lib.ListN.{getD, set, List·getD-map}
 use Rattle.rules.specs.Words.{Link, Machine, Access, Call, Out}
-use Rattle.table.specs.Table.{noLink, changeAt, taskAt, slot}
+use Rattle.table.specs.Table.{noLink, changeAt, taskAt, slot, remade}
 use Rattle.rules.specs.Places.{accessOf}
 use Rattle.rules.specs.Perform.{recordOf}
 use Rattle.rules.specs.Step.{dropped, dropFirst}
@@ -24,8 +24,7 @@ drop-more ls left t l j r e er = rw (er, e, add-one, List·getD-map (λ r. r % 3
 
 -- a machine with other links, and the machine that has lost j of its own
 abbrev pub withLinks : Machine → List Link → Machine
-withLinks m ls =
-    record { p = m .p; n = m .n; used = m .used; records = m .records; changes = m .changes; tasks = m .tasks; links = ls }
+withLinks m ls = remade m (m .used) (m .records) (m .changes) (m .tasks) ls
 
 pub lost : Machine → ℕ → List ℕ → ℕ → Machine
 lost m t l j = withLinks m (dropFirst (m .links) t (clip l) j)
@@ -48,15 +47,8 @@ one-more-lost m now t l j r e er = rw e (lost-is m t l (j + 1) _ (drop-more (m .
 -- THE TURN, stored in place
 abbrev pub stored : Machine → ℕ → ℕ → ℕ → Turned → Machine
 stored m t c r d =
-    record {
-      p = m .p;
-      n = m .n;
-      used = d .used;
-      records = set (m .records) r (d .rec);
-      changes = set (m .changes) c (d .change);
-      tasks = set (m .tasks) t (d .task);
-      links = set (m .links) (slot t r) (d .link);
-    }
+    remade m (d .used) (set (m .records) r (d .rec)) (set (m .changes) c (d .change)) (set (m .tasks) t (d .task))
+    (set (m .links) (slot t r) (d .link))
 
 -- the links of a task to the four records of a list, found by their numbers
 pub near-is : (ls : List Link) (t : ℕ) (l : List ℕ) (q0 q1 q2 q3 : ℕ) → q0 ≡ getD l 0 0 → q1 ≡ getD l 1 0 → q2 ≡ getD l 2 0 → q3 ≡ getD l 3 0

@@ -4,7 +4,7 @@ use Prim.Native.Nat.{ℕ, _%_}
 use mathlib.Core.List.{List, [], _∷_, map}
 use lib.ListN.{getD, set}
 use Rattle.rules.specs.Words.{Place, Link, Machine, Ask, AskLlx, AskScx, AskVlx, AskRead, AskStep, Call, Refusal, Accepted, Refused, Out, Access, Check, Passed, Failed}
-use Rattle.table.specs.Table.{noCells, noLink, recordAt, changeAt, taskAt, slot, linkAt}
+use Rattle.table.specs.Table.{noCells, noLink, recordAt, changeAt, taskAt, slot, linkAt, remade}
 use Rattle.rules.specs.Places.{changeOf, accessOf, isIdle}
 use Rattle.rules.specs.Perform.{recordOf}
 use Rattle.rules.specs.Step.{dropFirst}
@@ -124,15 +124,8 @@ handAt m t l c a r = handBy m t c a r (linksOf (m .links) t l)
 unfoldable pub putTurn : Machine → ℕ → ℕ → ℕ → Turned → Out
 putTurn m t c r d =
     record {
-      m = record {
-        p = m .p;
-        n = m .n;
-        used = d .used;
-        records = set (m .records) r (d .rec);
-        changes = set (m .changes) c (d .change);
-        tasks = set (m .tasks) t (d .task);
-        links = dropFirst (set (m .links) (slot t r) (d .link)) t (clip (d .list)) (d .drop);
-      };
+      m = let links = dropFirst (set (m .links) (slot t r) (d .link)) t (clip (d .list)) (d .drop) in
+          remade m (d .used) (set (m .records) r (d .rec)) (set (m .changes) c (d .change)) (set (m .tasks) t (d .task)) links;
       answer = d .answer;
       cells = d .cells;
     }

@@ -35,33 +35,33 @@ pub record Touch : Type 0 where
   pub state : State → State
   pub frozen : Bool → Bool
 
--- a read leaves all as it was; the words of a record, or of a change, are set
-abbrev pub reads : ℕ → ℕ → (Record → Change → Seen) → Touch
-reads r u sees =
+-- one that leaves all as it was; one that sets words of a record; one that sets words of a change
+abbrev pub reading : ℕ → ℕ → (Record → Change → Seen) → Touch
+reading r u sees =
     record { touched = r; change = u; sees = sees; cells = λ cs. cs; mark = λ b. b; info = λ i. i; state = λ s. s; frozen = λ b. b }
 
-abbrev pub sets : ℕ → (Record → Seen) → (List Cell → List Cell) → (Bool → Bool) → (ℕ → ℕ) → Touch
-sets r sees cells mark info =
+abbrev pub onRecord : ℕ → (Record → Seen) → (List Cell → List Cell) → (Bool → Bool) → (ℕ → ℕ) → Touch
+onRecord r sees cells mark info =
     record { touched = r; change = 0; sees = λ x ch. sees x; cells = cells; mark = mark; info = info; state = λ s. s; frozen = λ b. b }
 
-abbrev pub turns : ℕ → (State → State) → (Bool → Bool) → Touch
-turns u state frozen =
+abbrev pub onChange : ℕ → (State → State) → (Bool → Bool) → Touch
+onChange u state frozen =
     record { touched = 0; change = u; sees = λ x ch. sawNothing; cells = λ cs. cs; mark = λ b. b; info = λ i. i; state = state; frozen = frozen }
 
 abbrev pub touch : Access → Touch
-touch Nothing = reads 0 0 (λ x ch. sawNothing)
-touch (ReadMark r) = reads r 0 (λ x ch. sawBit (x .mark))
-touch (ReadInfo r) = reads r 0 (λ x ch. sawNumber (x .info))
-touch (ReadCell r f) = reads r 0 (λ x ch. sawCell (cellAt (x .cells) f))
-touch (ReadState u) = reads 0 u (λ x ch. sawState (stateOf u ch))
-touch (ReadFrozen u) = reads 0 u (λ x ch. sawBit (ch .frozen))
+touch Nothing = reading 0 0 (λ x ch. sawNothing)
+touch (ReadMark r) = reading r 0 (λ x ch. sawBit (x .mark))
+touch (ReadInfo r) = reading r 0 (λ x ch. sawNumber (x .info))
+touch (ReadCell r f) = reading r 0 (λ x ch. sawCell (cellAt (x .cells) f))
+touch (ReadState u) = reading 0 u (λ x ch. sawState (stateOf u ch))
+touch (ReadFrozen u) = reading 0 u (λ x ch. sawBit (ch .frozen))
 -- a Hold sees whether it took hold
-touch (Hold r want u) = sets r (λ x. sawBit (eqb (x .info) want)) (λ cs. cs) (λ b. b) (λ i. pick (eqb i want) u i)
-touch (Close r) = sets r (λ x. sawNothing) (λ cs. cs) (λ b. true) (λ i. i)
-touch (Write r f old new) = sets r (λ x. sawNothing) (λ cs. pick (sameCell (cellAt cs f) old) (set cs f new) cs) (λ b. b) (λ i. i)
-touch (Freeze u) = turns u (λ s. s) (λ b. true)
-touch (Abort u) = turns u (λ s. Aborted) (λ b. b)
-touch (Commit u) = turns u (λ s. Committed) (λ b. b)
+touch (Hold r want u) = onRecord r (λ x. sawBit (eqb (x .info) want)) (λ cs. cs) (λ b. b) (λ i. pick (eqb i want) u i)
+touch (Close r) = onRecord r (λ x. sawNothing) (λ cs. cs) (λ b. true) (λ i. i)
+touch (Write r f old new) = onRecord r (λ x. sawNothing) (λ cs. pick (sameCell (cellAt cs f) old) (set cs f new) cs) (λ b. b) (λ i. i)
+touch (Freeze u) = onChange u (λ s. s) (λ b. true)
+touch (Abort u) = onChange u (λ s. Aborted) (λ b. b)
+touch (Commit u) = onChange u (λ s. Committed) (λ b. b)
 
 abbrev pub recordOf : Access → ℕ
 recordOf a = touch a .touched

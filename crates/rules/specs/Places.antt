@@ -1,6 +1,6 @@
--- THE PLACES, document 01's list of them: at each one the operation that the task is in, "Each STEP makes one" shared access, and "Local work
--- rides on it". A shared word is a mark, an info, a cell, a change's state or its allFrozen. What a change wrote down when it started is
--- fixed, so to look at it is no access.
+-- THE PLACES, document 01's list of them: at each one the operation that the task is in, "Each STEP makes one" shared access, and "Local
+-- work rides on it". A shared word is a mark, an info, a cell, a change's state or its allFrozen. What a change wrote down when it started
+-- is fixed, so to look at it is no access.
 use Prim.Native.Nat.{ℕ, _+_}
 use mathlib.Core.Bool.{Bool, true, false}
 use mathlib.Core.List.{List}
@@ -69,7 +69,7 @@ meaning (H7 u after) =
 meaning (H8 u after) = helps u after (λ ch. Commit u) (λ s ch. verdict true after)
 -- VLX: one read of info for each record in order. READ: one read of one cell
 meaning (Vlx n i) =
-    record { idle = false; operation = InVlx; change = 0; access = λ ch l. ReadInfo (getD l i 0); rides = λ s ch linked. afterVlx n i (s .number) linked }
+    record { idle = false; operation = InVlx; change = 0; access = λ ch l. ReadInfo (getD l i 0); rides = λ s ch k. afterVlx n i (s .number) k }
 meaning (Read r f) =
     record { idle = false; operation = InRead; change = 0; access = λ ch l. ReadCell r f; rides = λ s ch linked. done (Value (s .cell)) }
 

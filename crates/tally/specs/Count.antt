@@ -6,9 +6,9 @@ use mathlib.Core.Bool.{Bool, true, false}
 use Rattle.table.specs.Table.{pick}
 use Rattle.table.specs.declared.Answer.{Answer}
 use Rattle.table.specs.declared.Answer.the-variants.{Accepted, Snapshot, Finalized, Fail, Yes, No, Value, Refused}
-use Rattle.tally.specs.declared.Tally.{Tally}
 use Rattle.table.specs.declared.Operation.{Operation}
 use Rattle.table.specs.declared.Operation.the-variants.{None, Llx, Scx, Vlx, Read}
+use Rattle.tally.specs.declared.Tally.{Tally}
 use Rattle.tally.specs.declared.Told.{Told}
 
 -- one of four by the answer: yes, no, Fail, any other
