@@ -1,4 +1,6 @@
 // The one shared access of a step: which change a place names, which access it makes, which record that touches; whether it is idle.
+#![tactic(auto)]
+
 ghost use Rattle.std.specs.Prelude.{◌≡◌, get_or};
 ghost use Rattle.rules.specs.Words.{Hold, Write};
 ghost use Rattle.rules.specs.Places.{change_of, access_of, is_idle};

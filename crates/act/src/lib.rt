@@ -1,4 +1,6 @@
 // A step on what it has in hand: its task, its access, and the change, the record and the link that these name.
+#![tactic(auto)]
+
 ghost use Rattle.std.specs.Prelude.{◌≡◌};
 ghost use Rattle.table.specs.Table.{pick, no_cells};
 ghost use Rattle.rules.specs.Step.{task_by, link_by};
@@ -8,7 +10,7 @@ use table::{Access, Answer, Cell, Cells, Change, Link, Machine, Move, Record, Se
 
 // What a step leaves: the record, the change, the task, the link, how many links of the task's list are dropped, and the answer
 // with the cells of a snapshot.
-#[derive(Drop)]
+#[derive(Clone, Copy)]
 pub struct Stored {
     pub rec: Record,
     pub change: Change,

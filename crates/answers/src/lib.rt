@@ -1,4 +1,6 @@
 // Numbers that come back: document 01's number for each answer.
+#![tactic(auto)]
+
 ghost use Rattle.std.specs.Prelude.{◌≡◌};
 ghost use Rattle.rules.specs.Answer.{number, refusal_number};
 

@@ -1,4 +1,6 @@
 // What a start leaves, on small values.
+#![tactic(auto)]
+
 ghost use Rattle.std.specs.Prelude.{◌≡◌};
 ghost use Rattle.begin.specs.Begun.{next_number, info_in, old_in, infos_in, filled_by, puts, begun_by};
 
@@ -8,7 +10,7 @@ use table::{After, Ask, Call, Cell, Change, Link, List, Machine, Place, State, T
 pub type Links = [Link; Machine::LIST];
 
 // What a start leaves: the used count, the change of the next number, the task, and the records whose links are dropped.
-#[derive(Drop)]
+#[derive(Clone, Copy)]
 pub struct Begun {
     pub used: u8,
     pub change: Change,

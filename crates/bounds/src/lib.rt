@@ -1,1 +1,2 @@
 // No code: the own_step bounds, in specs/, and their proofs.
+#![tactic(auto)]

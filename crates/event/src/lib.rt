@@ -1,4 +1,6 @@
 // An event of a run sheet: what its twelve bytes say, and whether they are fine. Past the end of what is lent a byte counts as 0.
+#![tactic(auto)]
+
 ghost use Rattle.std.specs.Prelude.{◌≡◌, ◌+◌, ◌*◌, get_or};
 ghost use Rattle.event.specs.Event.{event_fine, events_fine, event_bytes, event_at};
 

@@ -1,5 +1,7 @@
 // Document 01's whole example: one task reads one record, then writes 7 into its field 0. Each event is one call of the library,
 // which takes the machine and gives it back with an answer. What is written is what the runner writes for the same events.
+#![tactic(auto)]
+
 use libc::STDOUT_FILENO;
 use table::{Answer, Cells, Machine, Out};
 use tally::{Tally, Told};
@@ -9,7 +11,7 @@ const TASK: u8 = 0;
 const RECORD: u8 = 0;
 
 // The machine after some events, how many they were, and the tally of their answers.
-#[derive(Drop)]
+#[derive(Clone, Copy)]
 struct Run {
     m: Machine,
     events: u16,

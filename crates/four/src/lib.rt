@@ -1,4 +1,6 @@
 // Arrays of four, read and written at any index: past the end stands the logic's own default, and nothing is set.
+#![tactic(auto)]
+
 ghost use Rattle.std.specs.Prelude.{◌≡◌, false, get_or, set};
 ghost use Rattle.table.specs.Table.{cell_at};
 

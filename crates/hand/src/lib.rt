@@ -1,4 +1,6 @@
 // A call on what it has in hand: the refusals from 11 on, else the start or the step. What a refused call has in hand it gives back.
+#![tactic(auto)]
+
 ghost use Rattle.std.specs.Prelude.{◌≡◌};
 ghost use Rattle.begin.specs.Begun.{begun_by};
 ghost use Rattle.act.specs.Act.{act_of};
@@ -12,7 +14,7 @@ use table::{
 
 // What a call has in hand: the table's three numbers, its task, the access that the task would make, and what these name: the
 // change, the record, the task's link to it, and its links to the records of the call's list.
-#[derive(Drop)]
+#[derive(Clone, Copy)]
 pub struct Hand {
     pub p: u8,
     pub n: u8,
@@ -26,7 +28,7 @@ pub struct Hand {
 }
 
 // What a call leaves of it, how many records of which list lose their links, and the answer with the cells of a snapshot.
-#[derive(Drop)]
+#[derive(Clone, Copy)]
 pub struct Turned {
     pub used: u8,
     pub rec: Record,

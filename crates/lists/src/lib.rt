@@ -1,4 +1,6 @@
 // The tests of a list, of the set R and of an array of cells. Each is total: past an array's end stands the logic's own default.
+#![tactic(auto)]
+
 ghost use Rattle.std.specs.Prelude.{◌≡◌, false, not, get_or, eqb, leb, ltb};
 ghost use Rattle.rules.specs.Claim.{test, given, all_below};
 ghost use Rattle.rules.specs.Shape as spec;

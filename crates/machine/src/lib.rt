@@ -1,5 +1,7 @@
 // The public calls. Each takes any machine and any arguments, and answers what the rules say: the whole machine, the answer, the
 // cells of a snapshot. A refused call gives the machine back as it came.
+#![tactic(auto)]
+
 ghost use Rattle.std.specs.Prelude.{◌≡◌};
 ghost use Rattle.rules.specs.Next as rules;
 

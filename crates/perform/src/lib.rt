@@ -1,4 +1,6 @@
 // What an access sees in the record and the change that it touches, and what it leaves in each.
+#![tactic(auto)]
+
 ghost use Rattle.std.specs.Prelude.{◌≡◌};
 ghost use Rattle.rules.specs.Words.{Hold, Close, Write, Freeze};
 ghost use Rattle.table.specs.Table.{state_of};

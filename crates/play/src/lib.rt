@@ -1,5 +1,7 @@
 // The events of a run, one call after another. The loop owns the machine and stores in place: a function that took the machine
 // would copy it, so what a call does is in the crate hand, on what the call has in hand, and only the stores are here.
+#![tactic(auto)]
+
 ghost use Rattle.play.specs.Play.{Plays};
 
 use hand::Hand;
@@ -7,7 +9,7 @@ use table::Machine;
 use tally::{Tally, Told};
 
 // What the events leave: the machine, the tally of their answers, and the position after their lines.
-#[derive(Drop)]
+#[derive(Clone, Copy)]
 pub struct Played {
     pub m: Machine,
     pub tally: Tally,

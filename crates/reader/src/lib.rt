@@ -1,4 +1,6 @@
 // The reader of a run sheet's events: it knows the lent event bytes and its next event.
+#![tactic(auto)]
+
 ghost use Rattle.std.specs.Prelude.{◌≡◌, ◌+◌, ◌%◌};
 ghost use Rattle.event.specs.Event.{event_at};
 
@@ -6,7 +8,7 @@ use event::event_at;
 use table::Call;
 
 // The event bytes of a lent sheet, and which event is next.
-#[derive(Drop)]
+#[derive(Clone, Copy)]
 pub struct Reader<'a> {
     pub events: &'a [u8],
     pub next: u16,

@@ -1,4 +1,6 @@
 // The refusals of a call from 11 on, in the order of their numbers, on small values.
+#![tactic(auto)]
+
 ghost use Rattle.std.specs.Prelude.{◌≡◌, false, [], ltb};
 ghost use Rattle.rules.specs.Words.{AskLlx, AskScx, AskVlx, AskRead, AskStep, Failed};
 ghost use Rattle.table.specs.Table.{pick};

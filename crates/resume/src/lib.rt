@@ -1,4 +1,6 @@
 // The local work that rides on a step's access: where the step leads, by its place and what the access saw.
+#![tactic(auto)]
+
 ghost use Rattle.std.specs.Prelude.{◌≡◌};
 ghost use Rattle.rules.specs.Places.{resume};
 ghost use Rattle.rules.specs.Resume.{after_vlx};

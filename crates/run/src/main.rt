@@ -1,4 +1,6 @@
 // The program: a run sheet on standard input, the text of its run on standard output. What it prints is in the crate runner.
+#![tactic(auto)]
+
 ghost use Rattle.std.specs.Prelude.{true, ◌≡◌};
 ghost use Rattle.runner.specs.declared.Ran.TheVariants.{Text};
 ghost use Rattle.run.specs.Ran.{is_text};

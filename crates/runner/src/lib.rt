@@ -1,4 +1,6 @@
 // The runner: the bytes of a sheet in, the text of its run out, in a lent buffer.
+#![tactic(auto)]
+
 ghost use Rattle.std.specs.Prelude.{◌≡◌, ◌+◌, ◌*◌, ◌≤◌, length};
 ghost use Rattle.text.specs.Text.{joined};
 ghost use Rattle.text.specs.Put.{Put};
@@ -10,7 +12,7 @@ use sheet::{Layout, Sheet};
 use table::Machine;
 
 // The length of the text; or the buffer is too short, and how long it must be for the longest text that the sheet could have.
-#[derive(Drop)]
+#[derive(Clone, Copy)]
 pub enum Ran {
     Text { length: usize },
     Short { room: usize },

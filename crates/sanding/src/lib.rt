@@ -1,4 +1,6 @@
 // The runner for programs in C and Rust: what the static library exports. A slice passes as a pointer and a length.
+#![tactic(auto)]
+
 ghost use Rattle.std.specs.Prelude.{◌≡◌, length};
 ghost use Rattle.sheet.specs.Layout.{sheet_of};
 ghost use Rattle.runner.specs.Run.{room_as, ran_of, printed_of};

@@ -1,4 +1,6 @@
 // The test of the shape: refusal 10 where it fails. Each function has the claim of a line of the rules' Shape.
+#![tactic(auto)]
+
 mod place;
 
 ghost use Rattle.std.specs.Prelude.{◌≡◌, suc, ◌≤◌, ◌<◌};

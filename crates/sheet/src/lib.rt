@@ -1,4 +1,6 @@
 // Run sheets, the whole: a sheet is lent as bytes, and its parts are found by numbers.
+#![tactic(auto)]
+
 ghost use Rattle.std.specs.Prelude.{◌≡◌, ◌≤◌};
 ghost use Rattle.rules.specs.Claim.{test};
 ghost use Rattle.sheet.specs.Layout.{counts_fine, parts_size, sheet_of, values_in};
@@ -23,7 +25,7 @@ pub const SECOND_TAG: u8 = 0x53;
 const VALUES: usize = Machine::RECORDS * Machine::FIELDS;
 
 // The numbers of the trailer, and where the initial values stand.
-#[derive(Drop)]
+#[derive(Clone, Copy)]
 pub struct Layout {
     pub p: u8,
     pub n: u8,
@@ -32,7 +34,7 @@ pub struct Layout {
 }
 
 // A sheet's layout, or the lowest of 20 to 24 that applies.
-#[derive(Drop)]
+#[derive(Clone, Copy)]
 pub enum Sheet {
     Read { at: Layout },
     Refused { why: Refusal },

@@ -1,11 +1,13 @@
 // The table: its types, its limits, and the fresh table.
+#![tactic(auto)]
+
 ghost use Rattle.std.specs.Prelude.{◌≡◌};
 ghost use Rattle.table.specs.Table.{same_cell, same_cells};
 
 mod making;
 
 // A value with its stamp: the number of the change that wrote it, 0 for the initial value.
-#[derive(Drop)]
+#[derive(Clone, Copy)]
 pub struct Cell {
     pub value: u16,
     pub stamp: u8,
@@ -18,14 +20,14 @@ pub type Cells = [Cell; Machine::FIELDS];
 pub type List = [u8; Machine::LIST];
 
 // A record: four cells, a mark, the info. There is one for each last on the carrier.
-#[derive(Drop)]
+#[derive(Clone, Copy)]
 pub struct Record {
     pub cells: Cells,
     pub mark: bool,
     pub info: u8,
 }
 
-#[derive(Drop)]
+#[derive(Clone, Copy)]
 pub enum State {
     InProgress,
     Committed,
@@ -33,7 +35,7 @@ pub enum State {
 }
 
 // An SCX-record: what an SCX wrote down when it started, its state and all_frozen.
-#[derive(Drop)]
+#[derive(Clone, Copy)]
 pub struct Change {
     pub n: u8,
     pub v: List,
@@ -51,7 +53,7 @@ pub struct Change {
 }
 
 // What follows the verdict of a help: the answer of the task's own SCX, or the LLX that helped, at L8 or at L11.
-#[derive(Drop)]
+#[derive(Clone, Copy)]
 pub enum After {
     Own,
     AtL8 { r: u8, m1: bool },
@@ -59,7 +61,7 @@ pub enum After {
 }
 
 // Idle, or one place in one operation, with only the numbers that it needs.
-#[derive(Drop)]
+#[derive(Clone, Copy)]
 pub enum Place {
     Idle,
     L1 { r: u8 },
@@ -86,7 +88,7 @@ pub enum Place {
 }
 
 // Which operation a task is in.
-#[derive(Drop)]
+#[derive(Clone, Copy)]
 pub enum Operation {
     None,
     Llx,
@@ -96,7 +98,7 @@ pub enum Operation {
 }
 
 // A task: its place, the cells that an LLX has read so far, the list of a VLX.
-#[derive(Drop)]
+#[derive(Clone, Copy)]
 pub struct Task {
     pub place: Place,
     pub cells: Cells,
@@ -104,7 +106,7 @@ pub struct Task {
 }
 
 // What a task's LLX of a record returned, or none.
-#[derive(Drop)]
+#[derive(Clone, Copy)]
 pub struct Link {
     pub there: bool,
     pub info: u8,
@@ -112,7 +114,7 @@ pub struct Link {
 }
 
 // The whole table. Change u stands at u, entry 0 is not looked at; the link of task t to record r at t * RECORDS + r.
-#[derive(Drop)]
+#[derive(Clone, Copy)]
 pub struct Machine {
     pub p: u8,
     pub n: u8,
@@ -124,7 +126,7 @@ pub struct Machine {
 }
 
 // What a call asks for. R is a bit for each place; the list of an SCX or a VLX stands beside, in the call.
-#[derive(Drop)]
+#[derive(Clone, Copy)]
 pub enum Ask {
     Llx {
         r: u8,
@@ -146,7 +148,7 @@ pub enum Ask {
     Step,
 }
 
-#[derive(Drop)]
+#[derive(Clone, Copy)]
 pub struct Call {
     pub task: u8,
     pub ask: Ask,
@@ -154,7 +156,7 @@ pub struct Call {
 }
 
 // Why a call or a sheet is refused: 10 to 25.
-#[derive(Drop)]
+#[derive(Clone, Copy)]
 pub enum Refusal {
     OutOfShape,
     NoSuchTask,
@@ -175,7 +177,7 @@ pub enum Refusal {
 }
 
 // What a call answers; the cells of a snapshot stand beside it.
-#[derive(Drop)]
+#[derive(Clone, Copy)]
 pub enum Answer {
     Accepted,
     Snapshot,
@@ -188,7 +190,7 @@ pub enum Answer {
 }
 
 // The machine after a call, the answer, and the cells of a snapshot.
-#[derive(Drop)]
+#[derive(Clone, Copy)]
 pub struct Out {
     pub m: Machine,
     pub answer: Answer,
@@ -196,7 +198,7 @@ pub struct Out {
 }
 
 // The one shared access of a step: which word it reads, sets, or sets if it holds a value.
-#[derive(Drop)]
+#[derive(Clone, Copy)]
 pub enum Access {
     Nothing,
     ReadMark { r: u8 },
@@ -213,7 +215,7 @@ pub enum Access {
 }
 
 // What an access saw, in the field of its kind; the others are 0.
-#[derive(Drop)]
+#[derive(Clone, Copy)]
 pub struct Seen {
     pub bit: bool,
     pub number: u8,
@@ -223,7 +225,7 @@ pub struct Seen {
 
 // The local work that rides on an access: the next place, the answer, the field as which the cell seen is kept (4: none), whether
 // the link is stored, how many links of the task's list are dropped.
-#[derive(Drop)]
+#[derive(Clone, Copy)]
 pub struct Move {
     pub place: Place,
     pub answer: Answer,
@@ -233,7 +235,7 @@ pub struct Move {
 }
 
 // Whether a call passes its refusals.
-#[derive(Drop)]
+#[derive(Clone, Copy)]
 pub enum Check {
     Passed,
     Failed { why: Refusal },

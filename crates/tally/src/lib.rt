@@ -1,4 +1,6 @@
 // The tally of the last line `T`: changes made, SCX that answered no, LLX that answered Fail. Every answer brings it up to date.
+#![tactic(auto)]
+
 ghost use Rattle.std.specs.Prelude.{◌≡◌, []};
 ghost use Rattle.table.specs.declared.Operation.TheVariants.{Llx, Scx};
 ghost use Rattle.rules.specs.Places.{helping_of, operation_of};
@@ -7,7 +9,7 @@ ghost use Rattle.tally.specs.Count.{tally_of, counted_of};
 use table::{After, Answer, Operation, Place};
 
 // The three numbers of `T`.
-#[derive(Drop)]
+#[derive(Clone, Copy)]
 pub struct Tally {
     // SCX that answered yes
     pub made: u16,
@@ -18,7 +20,7 @@ pub struct Tally {
 }
 
 // What an event told: the operation that its task was in before the call, and the answer.
-#[derive(Drop)]
+#[derive(Clone, Copy)]
 pub struct Told {
     pub operation: Operation,
     pub answer: Answer,

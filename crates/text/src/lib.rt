@@ -1,4 +1,6 @@
 // Lines of numbers, written into a lent buffer. What does not fit is left out: nothing is written past the end.
+#![tactic(auto)]
+
 ghost use Rattle.std.specs.Prelude.{◌≡◌, [], ◌∷◌};
 ghost use Rattle.text.specs.Text.{ended, last, lead, digits, word, row, lettered};
 ghost use Rattle.text.specs.Put.{Put};

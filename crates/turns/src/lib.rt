@@ -1,5 +1,7 @@
 // A turn of the table, by value: a call on what it has in hand, and what it leaves put in place. Every index is clipped, so that a turn
 // ends with nothing undefined on any state; in a state in shape no index is altered by that.
+#![tactic(auto)]
+
 ghost use Rattle.std.specs.Prelude.{◌≡◌, ◌%◌};
 ghost use Rattle.rules.specs.Step.{drop_first};
 ghost use Rattle.hand.specs.Hand.{clip, links_of, turn_in};

@@ -1,4 +1,6 @@
 // The writer of run sheets.
+#![tactic(auto)]
+
 ghost use Rattle.std.specs.Prelude.{◌≡◌, length};
 ghost use Rattle.rules.specs.Claim.{test};
 ghost use Rattle.writer.specs.Write.{trailer_bytes, given_fine, written_of, buffer_of};
@@ -10,7 +12,7 @@ use table::{Machine, Refusal};
 mod put;
 
 // The length of the sheet that was written, or the lowest of 22, 24 and 25 that applies.
-#[derive(Drop)]
+#[derive(Clone, Copy)]
 pub enum Written {
     Sheet { length: usize },
     Refused { why: Refusal },
