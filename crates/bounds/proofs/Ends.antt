@@ -52,10 +52,10 @@ module _ (m : Machine) (calls : ℕ → Call) (R : Run m calls) where
 
       go : (ask : Ask) → Starts next m calls s t ask → is_step ask ≡ false → Passes (before next m calls s) (calls s) ask
           → Going next m calls s t (suc s)
-      go (AskLlx r) B h P = at (L1 r) refl (begun m calls R s t _ B (L1 r) (obeyed _ _ _ P).0 (R.Goes-to s (AskLlx r) P)).1
-      go (AskScx n r w f x) B h P = at _ refl (begun m calls R s t _ B _ (obeyed _ _ _ P).0 (R.Goes-to s (AskScx n r w f x) P)).1
-      go (AskVlx n) B h P = at (Vlx n 0) refl (begun m calls R s t _ B (Vlx n 0) (obeyed _ _ _ P).0 (R.Goes-to s (AskVlx n) P)).1
-      go (AskRead r f) B h P = at (Read r f) refl (begun m calls R s t _ B (Read r f) (obeyed _ _ _ P).0 (R.Goes-to s (AskRead r f) P)).1
+      go (AskLlx r) B h P = at (L1 r) refl (begun m calls R s t _ B (L1 r) (obeyed _ _ _ P).0 (R.goes_to s (AskLlx r) P)).1
+      go (AskScx n r w f x) B h P = at _ refl (begun m calls R s t _ B _ (obeyed _ _ _ P).0 (R.goes_to s (AskScx n r w f x) P)).1
+      go (AskVlx n) B h P = at (Vlx n 0) refl (begun m calls R s t _ B (Vlx n 0) (obeyed _ _ _ P).0 (R.goes_to s (AskVlx n) P)).1
+      go (AskRead r f) B h P = at (Read r f) refl (begun m calls R s t _ B (Read r f) (obeyed _ _ _ P).0 (R.goes_to s (AskRead r f) P)).1
       go AskStep B h P = absurd (true≢false h)
 
   module _ (s t k : ℕ) (g : Going next m calls s t k) where

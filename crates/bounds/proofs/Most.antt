@@ -67,17 +67,17 @@ module _ (m : Machine) (calls : ℕ → Call) (R : Run m calls) where
 
   pub llx_most : (s t r k : ℕ) → Starts next m calls s t (AskLlx r) → Going next m calls s t k → own next m calls s t k < 39
   unfolding rank
-  llx_most s t r k B = from_start s t (AskLlx r) B (L1 r) (λ P. ((obeyed (M s) (calls s) _ P).0, R.Goes-to s (AskLlx r) P)) k
+  llx_most s t r k B = from_start s t (AskLlx r) B (L1 r) (λ P. ((obeyed (M s) (calls s) _ P).0, R.goes_to s (AskLlx r) P)) k
 
   pub vlx_most : (s t n k : ℕ) → Starts next m calls s t (AskVlx n) → Going next m calls s t k → own next m calls s t k < n
   unfolding rank
   vlx_most s t n k B g =
-      let h = from_start s t (AskVlx n) B (Vlx n 0) (λ P. ((obeyed (M s) (calls s) _ P).0, R.Goes-to s (AskVlx n) P)) k g in
+      let h = from_start s t (AskVlx n) B (Vlx n 0) (λ P. ((obeyed (M s) (calls s) _ P).0, R.goes_to s (AskVlx n) P)) k g in
       omega arith
 
   pub read_most : (s t r f k : ℕ) → Starts next m calls s t (AskRead r f) → Going next m calls s t k → own next m calls s t k < 1
   unfolding rank
-  read_most s t r f k B = from_start s t (AskRead r f) B (Read r f) (λ P. ((obeyed (M s) (calls s) _ P).0, R.Goes-to s (AskRead r f) P)) k
+  read_most s t r f k B = from_start s t (AskRead r f) B (Read r f) (λ P. ((obeyed (M s) (calls s) _ P).0, R.goes_to s (AskRead r f) P)) k
 
   of_change : (c : Asked next m calls) (k : ℕ) → Going next m calls c.start c.task k
       → own next m calls c.start c.task k < 2 * c.n + size c.closing + 3
@@ -104,5 +104,5 @@ module _ (m : Machine) (calls : ℕ → Call) (R : Run m calls) where
         number = (M s).used + 1;
         asks = B.asks;
         accepted = B.accepted;
-        takes = (begun m calls R s t _ B _ (obeyed (M s) (calls s) _ P).0 (R.Goes-to s (AskScx n r written field new) P)).1;
+        takes = (begun m calls R s t _ B _ (obeyed (M s) (calls s) _ P).0 (R.goes_to s (AskScx n r written field new) P)).1;
       }) k g

@@ -95,7 +95,7 @@ module _ (m : Machine) (calls : ℕ → Call) (R : Run m calls) (s t r K : ℕ) 
   P = start_passes m calls R s t (AskLlx r) B
 
   start : (t < m.p) × (at (suc s) ≡ L1 r)
-  start = begun m calls R s t (AskLlx r) B (L1 r) (obeyed (M s) (calls s) _ P).0 (R.Goes-to s (AskLlx r) P)
+  start = begun m calls R s t (AskLlx r) B (L1 r) (obeyed (M s) (calls s) _ P).0 (R.goes_to s (AskLlx r) P)
 
   tl : t < m.p
   tl = start.0

@@ -88,7 +88,7 @@ module _ (C : Course) where
   pub writes_alter : (k u : ℕ) → Writes k u
       → (S C (suc k)).cell (spot ((S C k).terms u)) ((S C k).terms u).field ≢ (S C k).cell (spot ((S C k).terms u)) ((S C k).terms u).field
   writes_alter k u e q = let g = guard C k (write u) e in
-      g.ok.OLD-ENDED (subst (λ x. (S C k).state x ≡ InProgress) (ap (λ (c : Cell). c.stamp) (sym (writes_new k u e) ∙ q ∙ g.is_old))
+      g.ok.old_ended_law (subst (λ x. (S C k).state x ≡ InProgress) (ap (λ (c : Cell). c.stamp) (sym (writes_new k u e) ∙ q ∙ g.is_old))
       (write_going (S C k) (H k) (C.who k) u g))
 
   pub hap_now : (k u : ℕ) → Writes k u → (H (suc k)).hap u ≡ true

@@ -53,7 +53,7 @@ pub record Ok (c : Terms) (s : State) (fz hp : Bool) (hd : ℕ → Bool) (e : �
   pub apart_law : (i j : ℕ) → i < c.n → j < c.n → c.rec i ≡ c.rec j → i ≡ j
   pub shape_law : (c.n ≤ 4) × (c.written < c.n) × (c.field < 4)
   pub anchors_law : (i : ℕ) → i < c.n → Anchor S G (c.rec i) (c.infos i) (e i)
-  pub OLD-ENDED : S.state c.old.stamp ≢ InProgress
+  pub old_ended_law : S.state c.old.stamp ≢ InProgress
   -- until it happens, the cell is the old one as long as nobody else holds the record
   pub snap_law : hp ≡ false → (S.info (spot c) ≡ c.infos c.written) ⊎ (S.info (spot c) ≡ u) → S.cell (spot c) c.field ≡ c.old
   -- what was held has not the stored info; what has the info u was held; in progress, what was held has the info u; frozen, all was held
@@ -67,7 +67,7 @@ pub record Ok (c : Terms) (s : State) (fz hp : Bool) (hd : ℕ → Bool) (e : �
   pub aborted_law : s ≡ Aborted → Lost c hd S
   -- happened, it is frozen, what it closes is marked, and the old cell is gone
   pub happened_law : hp ≡ true → (fz ≡ true) × MarkedTo S c c.n
-  pub OLD-GONE : hp ≡ true → (S.cell (spot c) c.field).stamp ≢ c.old.stamp
+  pub old_gone_law : hp ≡ true → (S.cell (spot c) c.field).stamp ≢ c.old.stamp
   -- not happened, no effect has come to a record that it holds since the linked read
   pub clear_held_law : (i : ℕ) → i < c.n → S.info (c.rec i) ≡ u → hp ≡ false → G.eff (c.rec i) < e i
 

@@ -34,7 +34,7 @@ module _ (S : Shared) (G : Ghost) (t : ℕ) (k : Reading) where
   unfolding apply note
   keep_abort x g u O o = search (
     anchors S G t k (abort x) g u O o,
-    stay_ended S G t k (abort x) g (S.terms u).old.stamp tt O.OLD-ENDED,
+    stay_ended S G t k (abort x) g (S.terms u).old.stamp tt O.old_ended_law,
     holds x Aborted (λ q. ai refl q) (λ q. ca q refl) (λ q. g.lost) u O,
     committed x Aborted (λ q. ai refl q) (λ q. ca q refl) (λ q. g.lost) u O,
     aborted x Aborted (λ q. ai refl q) (λ q. ca q refl) (λ q. g.lost) u O,
@@ -44,7 +44,7 @@ module _ (S : Shared) (G : Ghost) (t : ℕ) (k : Reading) where
   unfolding apply note
   keep_commit x g u O o = search (
     anchors S G t k (commit x) g u O o,
-    stay_ended S G t k (commit x) g (S.terms u).old.stamp tt O.OLD-ENDED,
+    stay_ended S G t k (commit x) g (S.terms u).old.stamp tt O.old_ended_law,
     holds x Committed (λ q. ci refl q) (λ q. g.hap) (λ q. ca refl q) u O,
     committed x Committed (λ q. ci refl q) (λ q. g.hap) (λ q. ca refl q) u O,
     aborted x Committed (λ q. ci refl q) (λ q. g.hap) (λ q. ca refl q) u O,

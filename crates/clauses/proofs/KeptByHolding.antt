@@ -39,7 +39,7 @@ module _ (S : Shared) (G : Ghost) (t : ℕ) (k : Reading) where
     apart_law = O.apart_law;
     shape_law = O.shape_law;
     anchors_law = anchors S G t k (hold x i) g u O o;
-    OLD-ENDED = O.OLD-ENDED;
+    old_ended_law = O.old_ended_law;
     snap_law = λ z. at (λ y. (y ≡ c.infos c.written) ⊎ (y ≡ u) → S.cell (spot c) c.field ≡ c.old) S.info _ _ (spot c)
         (λ e. ⊎_elim (λ q. absurd (other c.written O.shape_law.1 q))
         (λ (q : x ≡ u). O.snap_law z (inl (at_own x i g u O q c.written O.shape_law.1 e).1))) (λ n. O.snap_law z);
@@ -60,7 +60,7 @@ module _ (S : Shared) (G : Ghost) (t : ℕ) (k : Reading) where
     committed_law = O.committed_law;
     aborted_law = λ a. stay_lost S G t k (hold x i) g u tt O (O.aborted_law a);
     happened_law = O.happened_law;
-    OLD-GONE = O.OLD-GONE;
+    old_gone_law = O.old_gone_law;
     clear_held_law = λ j h. at (λ y. y ≡ u → G.hap u ≡ false → G.eff (c.rec j) < G.since u j) S.info _ _ (c.rec j)
         (λ e q z. ((O.anchors_law j h).clear_law (at_own x i g u O q j h e).1).1) (λ n. O.clear_held_law j h);
   }

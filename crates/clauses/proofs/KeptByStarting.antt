@@ -26,7 +26,7 @@ module _ (S : Shared) (G : Ghost) (t : ℕ) (k : Reading) where
   ) others
     where
       others : Ok (S.terms u) (S.state u) (S.frozen u) (G.hap u) (G.held u) (G.since u) (apply (make x d) S) (note t (make x d) k S G) u
-      others = search (anchors S G t k (make x d) g u O o, stay_ended S G t k (make x d) g (S.terms u).old.stamp o.2 O.OLD-ENDED)
+      others = search (anchors S G t k (make x d) g u O o, stay_ended S G t k (make x d) g (S.terms u).old.stamp o.2 O.old_ended_law)
 
   -- the clauses of the change that starts
   pub made_ok : (x : ℕ) (d : Terms) (g : Guard S G t (make x d)) → Keeps S G t k (make x d) x
@@ -45,7 +45,7 @@ module _ (S : Shared) (G : Ghost) (t : ℕ) (k : Reading) where
         apart_law = g.apart;
         shape_law = g.shape;
         anchors_law = λ i h. stay_anchor S G t k (make x d) g _ _ _ (g.no_infos i h) (g.anchors i h);
-        OLD-ENDED = stay_ended S G t k (make x d) g _ g.no_old g.old_ended;
+        old_ended_law = stay_ended S G t k (make x d) g _ g.no_old g.old_ended;
         snap_law = λ z. ⊎_elim g.snap (λ q. absurd (g.no_info _ q));
         gone_law = λ i h z. tf z refl;
         held_law = λ i h q. absurd (g.no_info _ q);
@@ -55,6 +55,6 @@ module _ (S : Shared) (G : Ghost) (t : ℕ) (k : Reading) where
         committed_law = λ z. ci z refl;
         aborted_law = λ z. ai z refl;
         happened_law = λ z. tf z refl;
-        OLD-GONE = λ z. tf z refl;
+        old_gone_law = λ z. tf z refl;
         clear_held_law = λ i h q. absurd (g.no_info _ q);
       }

@@ -47,9 +47,9 @@ module _ (S : Shared) (G : Ghost) (t : ℕ) (k : Reading) where
       old-gone : upd G.hap x true u ≡ true → ((apply (write x) S).cell (spot c) c.field).stamp ≢ c.old.stamp
       old-gone z = at (λ (row : ℕ → Cell). (row c.field).stamp ≢ c.old.stamp) S.cell _ _ (spot c)
           (λ e. at (λ (d : Cell). d.stamp ≢ c.old.stamp) (S.cell (spot (S.terms x))) _ _ c.field
-          (λ q w. O.OLD-ENDED (subst (λ y. S.state y ≡ InProgress) w (write_going S G t x g)))
-          (λ m. rw (← e) (O.OLD-GONE (same-hap (λ q. m (ap (λ y. (S.terms y).field) q)) z))))
-          (λ m. O.OLD-GONE (same-hap (λ q. m (ap (λ y. spot (S.terms y)) q)) z))
+          (λ q w. O.old_ended_law (subst (λ y. S.state y ≡ InProgress) w (write_going S G t x g)))
+          (λ m. rw (← e) (O.old_gone_law (same-hap (λ q. m (ap (λ y. (S.terms y).field) q)) z))))
+          (λ m. O.old_gone_law (same-hap (λ q. m (ap (λ y. spot (S.terms y)) q)) z))
 
       clear-held : (i : ℕ) → i < c.n → S.info (c.rec i) ≡ u → upd G.hap x true u ≡ false
           → (note t (write x) k S G).eff (c.rec i) < G.since u i

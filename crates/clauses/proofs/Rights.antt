@@ -55,7 +55,7 @@ hold_going S G t u i g = ⊎_elim (λ e. e)
 
 -- whoever writes a cell is InProgress, has not happened, and holds all its records
 pub not_hap : (S : Shared) (G : Ghost) (t u : ℕ) → Guard S G t (write u) → G.hap u ≡ false
-not_hap S G t u g = ⊎_elim (λ e. absurd (g.ok.OLD-GONE e (ap (λ (c : Cell). c.stamp) g.is_old))) (λ f. f) (bool? (G.hap u))
+not_hap S G t u g = ⊎_elim (λ e. absurd (g.ok.old_gone_law e (ap (λ (c : Cell). c.stamp) g.is_old))) (λ f. f) (bool? (G.hap u))
 
 pub write_going : (S : Shared) (G : Ghost) (t u : ℕ) → Guard S G t (write u) → S.state u ≡ InProgress
 write_going S G t u g = ⊎_elim (λ e. e) (⊎_elim (λ c. tf (g.ok.committed_law c) (not_hap S G t u g))

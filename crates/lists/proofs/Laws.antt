@@ -6,7 +6,6 @@ use native.Mathlib.Omega.{arith}
 use native.Mathlib.Nat.{le_antisymm, le_of_suc-le-suc}
 use mathlib.Core.Path.{◌≡◌, refl, sym, ◌∙◌}
 use mathlib.Core.Bool.{Bool, true, false, not, false≢true}
-use borrow.Author.Tests.{not-true, not-false}
 use Rattle.rules.specs.Claim.{both, given, all_below, test}
 use Rattle.rules.specs.Shape.{within}
 use Rattle.rules.proofs.Exact.{both_on, all_is, told}
@@ -34,11 +33,11 @@ pub all_passed : (n i : ℕ) (f : ℕ → Bool) → SoFar n i f → n ≤ i → 
 all_passed n i f p l = rw (le_antisymm l p.0) (sym p.1)
 
 -- an answer o, which is b, tested as `!o`
-pub said_yes : {o b : Bool} → o ≡ b → not o ≡ false → b ≡ true
-said_yes e h = sym e ∙ not-false _ h
+pub said_yes : {o b : Bool} → o ≡ b → o ≡ true → b ≡ true
+said_yes e h = sym e ∙ h
 
-pub said_no : {o b : Bool} → o ≡ b → not o ≡ true → b ≡ false
-said_no e h = sym e ∙ not-true _ h
+pub said_no : {o b : Bool} → o ≡ b → o ≡ false → b ≡ false
+said_no e h = sym e ∙ h
 
 -- a chain of tests, `o && p`: where o, which is a, passes, the chain answers p; else o
 pub both_yes : {o p a b : Bool} → o ≡ a → o ≡ true → p ≡ b → p ≡ both a b

@@ -43,7 +43,7 @@ module _ (m : Machine) (calls : ℕ → Call) (R : Run m calls) where
   -- it takes the next number, and writes down what it asks for
   pub number_is : (c : Ch) → c.number ≡ (M c.start).used + 1
   number_is c =
-      let p = R.Goes-to c.start _ (passes c) in
+      let p = R.goes_to c.start _ (passes c) in
       let q : H1 c.number 0 Own ≡ H1 ((M c.start).used + 1) 0 Own =
       sym c.takes ∙ subst (λ t. (task_at (M (suc c.start)) t).place ≡ H1 ((M c.start).used + 1) 0 Own) (by_task c) p in
       cc
@@ -80,7 +80,7 @@ module _ (m : Machine) (calls : ℕ → Call) (R : Run m calls) where
           number = u;
           asks = λ k. record { task = (calls s).task; ask = P.asks k; list = (calls s).list };
           accepted = ap (λ (o : Out). o.answer) (next_is (M s) (calls s) _ P);
-          takes = R.Goes-to s (AskScx n r written field new) P ∙ ap (λ u. H1 u 0 Own) (sym number);
+          takes = R.goes_to s (AskScx n r written field new) P ∙ ap (λ u. H1 u 0 Own) (sym number);
         },
         refl,
         refl,

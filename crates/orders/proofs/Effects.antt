@@ -20,7 +20,7 @@ use Rattle.clauses.proofs.Steps.{is_old, act_at}
 use Rattle.clauses.proofs.Course.{Course, S, turn, since_start}
 use Rattle.clauses.proofs.Came.{Wrote, Writes, alters_by, writes_alter}
 use Rattle.clauses.proofs.Sentences.{write_live, once as one-write, alters as write-alters}
-use Rattle.clauses.proofs.Closed.{closed as Stays-closed}
+use Rattle.clauses.proofs.Closed.{closed as stays_closed}
 use Rattle.orders.specs.Demand.{before, place, cell, mark, info, Steps, Change, named, spot, Closes, During, Effect, Still}
 use Rattle.orders.proofs.View.{shared, record_in}
 use Rattle.orders.proofs.Calls.{Passes, not_refused, did_is, obeyed, wrote}
@@ -155,7 +155,7 @@ module _ (m : Machine) (calls : ℕ → Call) (R : Run m calls) where
   pub closed : (c : Ch) (k : ℕ) → Effect next m calls c k → (r : ℕ) → Closes next m calls c r → (j : ℕ) → k < j
       → Still next m calls j r × (mark next m calls j r ≡ true) × (info next m calls j r ≡ c.number)
   closed c k E r (i, h, q, e) j l =
-      let (a, b, d) = Stays-closed C c.start c.number (terms m calls R c) (makes m calls R c) k E.during.later
+      let (a, b, d) = stays_closed C c.start c.number (terms m calls R c) (makes m calls R c) k E.during.later
       (alone m calls R c k E.during) (writes c k E) i h (bits c.closing i (few c i h) q) j l in
       let n = inside c i h in
       subst (λ r. Still next m calls j r × (mark next m calls j r ≡ true) × (info next m calls j r ≡ c.number)) e (

@@ -71,15 +71,15 @@ module _ (m : Machine) (calls : ℕ → Call) (R : Run m calls) where
 
     asked : t ≡ (calls k).task → (ask : Ask) → Passes (M k) (calls k) ask → Began
     unfolding started move_at
-    asked e (AskLlx x) P = let z : x ≡ r = omega (arith, is e (L1 x) (R.Goes-to k (AskLlx x) P)) in record {
+    asked e (AskLlx x) P = let z : x ≡ r = omega (arith, is e (L1 x) (R.goes_to k (AskLlx x) P)) in record {
       list = (calls k).list;
       asks = λ i. record { task = sym e i; ask = (P.asks ∙ ap AskLlx z) i; list = (calls k).list };
       accepted = ap (λ (o : Out). o.answer) (next_is (M k) (calls k) _ P);
     }
-    asked e (AskScx n x w f v) P = absurd (omega (arith, is e _ (R.Goes-to k (AskScx n x w f v) P)))
-    asked e (AskVlx n) P = absurd (omega (arith, is e _ (R.Goes-to k (AskVlx n) P)))
-    asked e (AskRead x f) P = absurd (omega (arith, is e _ (R.Goes-to k (AskRead x f) P)))
-    asked e AskStep P = let q = is e _ (R.Goes-to k AskStep P) in ⊎_elim
+    asked e (AskScx n x w f v) P = absurd (omega (arith, is e _ (R.goes_to k (AskScx n x w f v) P)))
+    asked e (AskVlx n) P = absurd (omega (arith, is e _ (R.goes_to k (AskVlx n) P)))
+    asked e (AskRead x f) P = absurd (omega (arith, is e _ (R.goes_to k (AskRead x f) P)))
+    asked e AskStep P = let q = is e _ (R.goes_to k AskStep P) in ⊎_elim
         (λ w. absurd (d (ap (at k) e ∙ sym w ∙ q))) (λ w. let z : ◌≡◌ {A = ℕ} 0 (suc r) = sym w ∙ q in absurd (omega arith))
         (moves (place next m calls k (calls k).task) _ _ _).0
 

@@ -75,7 +75,7 @@ module _ (m : Machine) (calls : ℕ → Call) (R : Run m calls) where
       → (place next m calls (suc k) t ≡ (move_at (M k) t).place) × (said next m calls k ≡ (move_at (M k) t).answer)
   unfolding step
   moved k t P = let Q = step_passes m calls R k t P in (
-    subst (λ t. place next m calls (suc k) t ≡ (move_at (M k) t).place) P.by (R.Goes-to k AskStep Q),
+    subst (λ t. place next m calls (suc k) t ≡ (move_at (M k) t).place) P.by (R.goes_to k AskStep Q),
     ap (λ (o : Out). o.answer) (next_is (M k) (calls k) AskStep Q) ∙ ap (λ t. (move_at (M k) t).answer) P.by,
   )
 
