@@ -8,24 +8,28 @@ use Rattle.shape.proofs.change_fine.Goals as goal
 
 pub returns-then-old-used : goal.returns-then-old-used
 returns-then-old-used c =
-    listed c.before.before.before.before.before.before.before
+    both_yes c.list_fine.ensures c.if-list_fine.true
+    (both_yes c.in_list.ensures c.if-in_list.true
     (both_yes refl (lt-ltb _ _ c.if-x.true)
     (both_yes refl (lt-ltb _ _ c.if-x-lt-FIELDS.true)
-    (both_yes refl (le-leb _ _ c.if-old-used.true) c.infos_known.ensures)))
+    (both_yes refl (le-leb _ _ c.if-old-used.true) c.infos_known.ensures))))
 
 pub returns-else-old-used : goal.returns-else-old-used
 returns-else-old-used c =
-    listed c.before.before.before.before.before.before
+    both_yes c.list_fine.ensures c.if-list_fine.true
+    (both_yes c.in_list.ensures c.if-in_list.true
     (both_yes refl (lt-ltb _ _ c.if-x.true)
-    (both_yes refl (lt-ltb _ _ c.if-x-lt-FIELDS.true) (both_no _ refl (lt-leb _ _ c.if-old-used.false))))
+    (both_yes refl (lt-ltb _ _ c.if-x-lt-FIELDS.true) (both_no _ refl (lt-leb _ _ c.if-old-used.false)))))
 
 pub returns-else-x-lt-FIELDS : goal.returns-else-x-lt-FIELDS
 returns-else-x-lt-FIELDS c =
-    listed c.before.before.before.before
-    (both_yes refl (lt-ltb _ _ c.if-x.true) (both_no _ refl (le-ltb _ _ c.if-x-lt-FIELDS.false)))
+    both_yes c.list_fine.ensures c.if-list_fine.true
+    (both_yes c.in_list.ensures c.if-in_list.true
+    (both_yes refl (lt-ltb _ _ c.if-x.true) (both_no _ refl (le-ltb _ _ c.if-x-lt-FIELDS.false))))
 
 pub returns-else-x : goal.returns-else-x
-returns-else-x c = listed c.before.before (both_no _ refl (le-ltb _ _ c.if-x.false))
+returns-else-x c = both_yes c.list_fine.ensures c.if-list_fine.true
+    (both_yes c.in_list.ensures c.if-in_list.true (both_no _ refl (le-ltb _ _ c.if-x.false)))
 
 pub returns-else-in_list : goal.returns-else-in_list
 returns-else-in_list c =

@@ -16,7 +16,7 @@ returns-in-Finalized c = simp c.in-Finalized.is
 
 pub returns-in-Fail : goal.returns-in-Fail
 unfolding counted_of
-returns-in-Fail c = simp (c.in-Fail.is, c.wrapping_add_u16.ensures)
+returns-in-Fail c = simp (c.in-Fail.is, c.wrapping_add_u16.ensures.value)
 
 pub returns-in-Yes : goal.returns-in-Yes
 unfolding counted_of

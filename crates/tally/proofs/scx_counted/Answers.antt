@@ -20,11 +20,11 @@ returns-in-Fail c = simp c.in-Fail.is
 
 pub returns-in-Yes : goal.returns-in-Yes
 unfolding counted_of
-returns-in-Yes c = simp (c.in-Yes.is, c.wrapping_add_u16.ensures)
+returns-in-Yes c = simp (c.in-Yes.is, c.wrapping_add_u16.ensures.value)
 
 pub returns-in-No : goal.returns-in-No
 unfolding counted_of
-returns-in-No c = simp (c.in-No.is, c.wrapping_add_u16-in-No.ensures)
+returns-in-No c = simp (c.in-No.is, c.wrapping_add_u16-in-No.ensures.value)
 
 pub returns-in-Value : goal.returns-in-Value
 unfolding counted_of
