@@ -4,7 +4,8 @@
 usage: python3 tools/respell.py      at the top, once, after the kit's port.py
 
 tools/respell.tsv has a row for each name: old, a tab, new; a third column names the one file in which the row holds.
-Whole names turn, in every .antt and .rt file of crates/, in the must-fail edits, and in the code spans of the pages.
+Whole names turn, in every .antt and .rt file of crates/, in the must-fail edits, and in the code spans of the pages;
+a name of capitals in .antt files alone, since elsewhere it is a constant of the code.
 """
 
 import os
@@ -50,6 +51,8 @@ def main():
         with open(full, encoding="utf-8") as f:
             old = f.read()
         table = everywhere | alone.get(path, {})
+        if kind != ".antt":
+            table = {a: b for a, b in table.items() if not a.isupper()}
         if kind == ".md":
             new = SPAN.sub(lambda m: turned(m[0], table), old)
         else:

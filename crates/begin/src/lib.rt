@@ -23,7 +23,7 @@ pub struct Begun {
 pub fn next_number(used: u8) -> u8
     ensures { result ≡ next_number used }
 {
-    if (used as usize) < Machine::changes_law {
+    if (used as usize) < Machine::CHANGES {
         used + 1
     } else {
         0

@@ -69,7 +69,7 @@ fn of_scx(
 {
     let c19 = unless(
         Refusal::NumbersUsed,
-        (used as usize) < Machine::changes_law,
+        (used as usize) < Machine::CHANGES,
         Check::Passed,
     );
     let c18 = unless(Refusal::NoLink, linked, c19);

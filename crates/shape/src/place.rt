@@ -7,7 +7,7 @@ ghost use Rattle.shape.specs.Linked.{linked_in};
 use crate::numbers_known;
 use table::{After, Cells, Change, Link, List, Machine, Place, Task};
 
-type Links = [Link; Machine::links_law];
+type Links = [Link; Machine::LINKS];
 
 // No change number stands in an After, so any count of used ones will do.
 fn after_fine(records: u8, after: After) -> bool
@@ -31,7 +31,7 @@ fn linked(links: Links, t: u8, r: u8) -> bool
     ensures { result ≡ linked_in links t r }
 {
     let at = t as usize * Machine::RECORDS + r as usize;
-    if at < Machine::links_law {
+    if at < Machine::LINKS {
         let x = links[at];
         x.there
     } else {

@@ -120,9 +120,9 @@ pub struct Machine {
     pub n: u8,
     pub used: u8,
     pub records: [Record; Machine::RECORDS],
-    pub changes: [Change; Machine::changes_law + 1],
+    pub changes: [Change; Machine::CHANGES + 1],
     pub tasks: [Task; Machine::TASKS],
-    pub links: [Link; Machine::links_law],
+    pub links: [Link; Machine::LINKS],
 }
 
 // What a call asks for. R is a bit for each place; the list of an SCX or a VLX stands beside, in the call.
@@ -276,7 +276,7 @@ impl Machine {
 
     pub const RECORDS: usize = 32;
 
-    pub const changes_law: usize = 255;
+    pub const CHANGES: usize = 255;
 
     pub const LIST: usize = 4;
 
@@ -285,5 +285,5 @@ impl Machine {
     // the most events that a sheet has
     pub const EVENTS: usize = 5000;
 
-    pub const links_law: usize = Machine::TASKS * Machine::RECORDS;
+    pub const LINKS: usize = Machine::TASKS * Machine::RECORDS;
 }

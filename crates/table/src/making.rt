@@ -110,9 +110,9 @@ fn fresh_machine(p: u8, n: u8, records: [Record; Machine::RECORDS]) -> Machine
         n,
         used: 0,
         records,
-        changes: [change; Machine::changes_law + 1],
+        changes: [change; Machine::CHANGES + 1],
         tasks: [task; Machine::TASKS],
-        links: [link; Machine::links_law],
+        links: [link; Machine::LINKS],
     }
 }
 

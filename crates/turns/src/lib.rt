@@ -11,7 +11,7 @@ use hand::Hand;
 use table::{Call, Link, List, Machine, Out};
 
 // The links of a task to the four records of a list.
-fn links_of(links: [Link; Machine::links_law], t: u8, list: List) -> Links
+fn links_of(links: [Link; Machine::LINKS], t: u8, list: List) -> Links
     ensures { result ≡ links_of links (t % 8) list }
 {
     let at = t as usize % Machine::TASKS * Machine::RECORDS;
@@ -23,7 +23,7 @@ fn links_of(links: [Link; Machine::links_law], t: u8, list: List) -> Links
 }
 
 // The links without those of a task to the first n records of a list.
-fn drop_links(links: [Link; Machine::links_law], t: u8, list: List, n: u8) -> [Link; Machine::links_law]
+fn drop_links(links: [Link; Machine::LINKS], t: u8, list: List, n: u8) -> [Link; Machine::LINKS]
     ensures { result ≡ drop_first links (t % 8) (clip list) n }
 {
     let at = t as usize % Machine::TASKS * Machine::RECORDS;

@@ -2,8 +2,8 @@
 use borrow.Author.Tests.{lt-ltb, le-ltb}
 use Rattle.begin.proofs.next_number.Goals as goal
 
-pub returns-then-used-lt-changes_law : goal.returns-then-used-lt-changes_law
-returns-then-used-lt-changes_law c = simp (lt-ltb _ _ c.if-used-lt-changes_law.true)
+pub returns-then-used-lt-CHANGES : goal.returns-then-used-lt-CHANGES
+returns-then-used-lt-CHANGES c = simp (lt-ltb _ _ c.if-used-lt-CHANGES.true)
 
-pub returns-else-used-lt-changes_law : goal.returns-else-used-lt-changes_law
-returns-else-used-lt-changes_law c = simp (le-ltb _ _ c.if-used-lt-changes_law.false)
+pub returns-else-used-lt-CHANGES : goal.returns-else-used-lt-CHANGES
+returns-else-used-lt-CHANGES c = simp (le-ltb _ _ c.if-used-lt-CHANGES.false)

@@ -6,5 +6,5 @@ use Rattle.table.specs.Table.{no_link}
 use Rattle.four.proofs.Past.{past}
 use Rattle.shape.proofs.place.linked.Goals as goal
 
-pub returns-else-at-lt-links_law : goal.returns-else-at-lt-links_law
-returns-else-at-lt-links_law c = ap (λ (x : Link). x.there) (past c.args.links _ 256 no_link (search rules) c.if-at-lt-links_law.false)
+pub returns-else-at-lt-LINKS : goal.returns-else-at-lt-LINKS
+returns-else-at-lt-LINKS c = ap (λ (x : Link). x.there) (past c.args.links _ 256 no_link (search rules) c.if-at-lt-LINKS.false)
