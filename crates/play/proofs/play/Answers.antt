@@ -12,25 +12,17 @@ loop-i-init c = (search rules, begins _ _ _ _ c.none-tally.ensures)
 
 pub offset_bounds-m-c-in-loop-i : goal.offset_bounds-m-c-in-loop-i
 offset_bounds-m-c-in-loop-i c =
-    omega (arith, c.number_of-c.type-inv)
+    omega (arith, c.number_of-c.type_inv)
 
 pub bounds-m-c-in-loop-i : goal.bounds-m-c-in-loop-i
 bounds-m-c-in-loop-i c =
-    omega (arith, c.number_of-c.type-inv)
+    omega (arith, c.number_of-c.type_inv)
 
 pub loop-j-init : goal.loop-j-init
 loop-j-init c = (search rules, none_lost _ _ _)
 
 pub loop-j-preserved : goal.loop-j-preserved
 loop-j-preserved c = (search rules, one_more_lost _ _ _ _ _ _ c.loop-j.invariant.1 c.number_at-in-loop-j.ensures)
-
-pub overflow_add-i : goal.overflow_add-i
-overflow_add-i c =
-    omega (arith, c.loop-i-test.taken, c.fits.count.fits)
-
-pub loop-i-smaller : goal.loop-i-smaller
-loop-i-smaller c =
-    omega (arith, c.loop-i-test.taken, c.fits.count.fits)
 
 pub loop-i-preserved : goal.loop-i-preserved
 loop-i-preserved c =
