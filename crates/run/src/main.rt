@@ -1,12 +1,13 @@
 // The program: a run sheet on standard input, the text of its run on standard output. What it prints is in the crate runner.
 #![tactic(auto)]
 
-ghost use Rattle.std.specs.Prelude.{true, ◌≡◌};
+ghost use Rattle.std.specs.Prelude.{true, ◌≡◌, ◌≤◌, length, OnOk, IfOk};
 ghost use Rattle.runner.specs.declared.Ran.TheVariants.{Text};
 ghost use Rattle.run.specs.Ran.{is_text};
 
-use libc::{STDIN_FILENO, STDOUT_FILENO};
 use runner::Ran;
+use std::io;
+use std::io::{Read, Write};
 
 // One byte more than a sheet may have, so that a longer input is noticed.
 const MOST: usize = 65001;
@@ -25,11 +26,26 @@ fn length_of(ran: Ran) -> usize
     }
 }
 
-fn main() {
+// Reads until the buffer is full or the input ends: how many bytes came.
+fn read_full(from: &mut (impl Read), buf: &mut [u8]) -> io::Result<usize>
+    ensures { IfOk result (λ n. n ≤ length buf.new) }
+{
+    let mut done = 0;
+    while done < buf.len() {
+        let got = from.read(&mut buf[done..])?;
+        if got == 0 {
+            break;
+        }
+        done += got;
+    }
+    Ok(done)
+}
+
+fn main(rt: HostRuntime) -> io::Result<()> {
     let mut sheet = [0u8; MOST];
     let mut text = [0u8; ROOM];
-    let got = io::read_full(STDIN_FILENO, &mut sheet);
+    let got = read_full(&mut rt.reader(), &mut sheet)?;
     let ran = runner::run(&sheet[..got], &mut text);
     let length = length_of(ran);
-    io::write_all(STDOUT_FILENO, &text[..length]);
+    io::writer(&rt).write_all(&text[..length])
 }

@@ -1,4 +1,4 @@
-// The runner for programs in C and Rust: what the static library exports. A slice passes as a pointer and a length.
+// The runner for programs in C and Rust: what the static library of crate sanding_c exports.
 #![tactic(auto)]
 
 ghost use Rattle.std.specs.Prelude.{◌≡◌, length};
@@ -10,8 +10,7 @@ use runner::Ran;
 use sheet::Sheet;
 
 // The number of the refusal that a sheet gets, 20 to 24, or 0 if it is accepted. Nothing is run.
-#[unsafe(no_mangle)]
-pub extern "C" fn sanding_refusal(s: &[u8]) -> u8
+pub fn sanding_refusal(s: &[u8]) -> u8
     ensures { result ≡ refusal_in (sheet_of s.now) }
 {
     let read = sheet::layout_of(s);
@@ -22,8 +21,7 @@ pub extern "C" fn sanding_refusal(s: &[u8]) -> u8
 }
 
 // How long a buffer sanding_run needs for this sheet.
-#[unsafe(no_mangle)]
-pub extern "C" fn sanding_room(s: &[u8]) -> usize
+pub fn sanding_room(s: &[u8]) -> usize
     ensures { result ≡ room_as (sheet_of s.now) }
 {
     let read = sheet::layout_of(s);
@@ -31,8 +29,7 @@ pub extern "C" fn sanding_room(s: &[u8]) -> usize
 }
 
 // The text of the sheet's run, at the front of the buffer: its length. 0 if the buffer is too short; it then stays as it was.
-#[unsafe(no_mangle)]
-pub extern "C" fn sanding_run(s: &[u8], out: &mut [u8]) -> usize
+pub fn sanding_run(s: &[u8], out: &mut [u8]) -> usize
     ensures { (result ≡ length_in (ran_of s.now (length out.old))) × (out.new ≡ printed_of s.now out.old) }
 {
     let ran = runner::run(s, out);
