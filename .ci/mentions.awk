@@ -5,7 +5,7 @@
 #   folder that the column's heading or the last path of the paragraph names; on the other pages anywhere. `.ending`: some file has it.
 # - a name, which must be declared: in a file (a folder) if it directly follows that, alone or in a list, if the column's heading names it,
 #   or if `name` (`file`), `name` of `file` or `name` in `file` is said; else anywhere. `crate::name` is in that crate; `Type::name`,
-#   `Type.name` and `name` of `Type`, also by a column's heading, are in that type. `-end` or `start-`: some declared name has it.
+#   `Type.name` and `name` of `Type`, also by a column's heading, are in that type. `_end` or `start_`: some declared name has it.
 #   On the other pages a crate's name will do.
 # - a command: has a space, and its first word is a path or a program named below.
 # - else an expression: each of its words of three letters and more is a name.
@@ -42,7 +42,7 @@ function path_of(token,   edit) { # the path that is meant, "" if there is none
   return token in path ? token : "crates/" token in path ? "crates/" token : edit in path ? edit : ""
 }
 function affix(token,   name) {
-  for (name in any) if (token ~ /^-/ ? substr(name, length(name) - length(token) + 1) == token : index(name, token) == 1) return 1
+  for (name in any) if (token ~ /^_/ ? substr(name, length(name) - length(token) + 1) == token : index(name, token) == 1) return 1
   wrong("`" token "`: no declared name has it")
 }
 function expression(token,   rest, w) {
@@ -74,9 +74,9 @@ function scan(text, where,   part, n, i, j, token, sep, last, list, m, p) { # wh
     if (sep == " of " && token in owner) for (j = 1; j <= m; j++) owned(token, list[j], list[j])
     if (sep !~ /^(,|,? and| \.\.) $/) m = 0
     last = "name"
-    if (token in any || token ~ /^[A-Za-z][A-Za-z0-9_'.:-]*[A-Za-z0-9_']$/) { named(token, where, token); list[++m] = token }
+    if (!(token in any) && token ~ /^_[A-Za-z]|[A-Za-z0-9]_$/) affix(token)
+    else if (token in any || token ~ /^[A-Za-z][A-Za-z0-9_'.:-]*[A-Za-z0-9_']$/) { named(token, where, token); list[++m] = token }
     else if (token ~ /^\.[a-z]+$/) { if (!(token in ending)) wrong("`" token "`: no file ends so") }
-    else if (token ~ /^-|-$/) affix(token)
     else expression(token)
   }
   return where
