@@ -5,7 +5,7 @@ usage: python3 tools/respell.py      at the top, once, after the kit's port.py
 
 tools/respell.tsv has a row for each name: old, a tab, new; a third column names the one file in which the row holds.
 Whole names turn, in every .antt and .rt file of crates/, in the must-fail edits, and in the code spans of the pages;
-a name of capitals in .antt files alone, since elsewhere it is a constant of the code.
+a name of capitals in the code of .antt files alone, since elsewhere it is a word or a constant of the code.
 """
 
 import os
@@ -32,6 +32,16 @@ def turned(text, table):
     return NAME.sub(lambda m: table.get(m[0], m[0]), text)
 
 
+def without_capitals(table):
+    return {a: b for a, b in table.items() if not a.isupper()}
+
+
+def proof(text, table):
+    words = without_capitals(table)
+    lines = text.split("\n")
+    return "\n".join(turned(x, words if x.lstrip().startswith("--") else table) for x in lines)
+
+
 def files():
     for part in ("crates", "docs"):
         for folder, below, names in os.walk(os.path.join(TOP, part)):
@@ -51,12 +61,12 @@ def main():
         with open(full, encoding="utf-8") as f:
             old = f.read()
         table = everywhere | alone.get(path, {})
-        if kind != ".antt":
-            table = {a: b for a, b in table.items() if not a.isupper()}
-        if kind == ".md":
-            new = SPAN.sub(lambda m: turned(m[0], table), old)
+        if kind == ".antt":
+            new = proof(old, table)
+        elif kind == ".md":
+            new = SPAN.sub(lambda m: turned(m[0], without_capitals(table)), old)
         else:
-            new = turned(old, table)
+            new = turned(old, without_capitals(table))
         if new != old:
             with open(full, "w", encoding="utf-8") as f:
                 f.write(new)

@@ -1,2 +1,2 @@
-// No code: the own_step bounds, in specs/, and their proofs.
+// No code: the own-step bounds, in specs/, and their proofs.
 #![tactic(auto)]

@@ -46,7 +46,7 @@ MarkedTo S c i = (j : ℕ) → j < i → c.closes j ≡ true → S.mark (c.rec j
 abbrev pub Lost : Terms → (ℕ → Bool) → Shared → Type 0
 Lost c hd S = (j : ℕ) × (j < c.n) × HeldTo hd j × (hd j ≡ false) × (S.info (c.rec j) ≢ c.infos j)
 
--- the clauses of a live change u: c its terms, s its state, fz all_frozen, hp whether it has happened, hd the places held, e the ends of
+-- the clauses of a live change u: c its terms, s its state, fz allFrozen, hp whether it has happened, hd the places held, e the ends of
 -- its linked reads
 pub record Ok (c : Terms) (s : State) (fz hp : Bool) (hd : ℕ → Bool) (e : ℕ → ℕ) (S : Shared) (G : Ghost) (u : ℕ) : Type 0 where
   -- what it wrote down: no record twice; the ranges; each stored info an anchor; the stamp of the old cell ended

@@ -37,7 +37,7 @@ module _ (S : Shared) (G : Ghost) (t : ℕ) (k : Reading) where
   same_since (commit x) u o = refl
   same_since (make x c) u o = upd_miss G.since x _ o
 
-  -- marks, all_frozen, what has happened and what was held stay
+  -- marks, allFrozen, what has happened and what was held stay
   pub stay_mark : (b : Act) (r : ℕ) → S.mark r ≡ true → (apply b S).mark r ≡ true
   unfolding apply
   stay_mark nop r h = h

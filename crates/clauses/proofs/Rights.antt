@@ -4,7 +4,7 @@ use mathlib.Core.Path.{◌≡◌, refl, ap, subst}
 use mathlib.Core.Bool.{true, false}
 use mathlib.Core.Logic.{◌⊎◌, inl, inr, ⊎_elim}
 use native.Mathlib.Omega.{arith}
-use Rattle.clauses.proofs.Updates.{at, same?, bool?, tf, leb_case}
+use Rattle.clauses.proofs.Updates.{same?, bool?, tf, leb_case}
 use Rattle.rules.specs.Words.{Cell, State, InProgress, Committed, Aborted}
 use Rattle.clauses.proofs.Memory.{Shared}
 use Rattle.clauses.proofs.Memory.{hold, write}

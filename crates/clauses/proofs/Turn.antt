@@ -137,7 +137,7 @@ module _ (X Y : Table) (G : Ghost) (F : Fine X G) (t : ℕ) (b : Act) (k : Readi
       (subst (λ z. LinkOk S' G' z k.at (Y.link t k.at))
       (sym (ap (λ (R : ℕ → ℕ → ℕ). R t k.at) (read_is t b k S G) ∙ read_now t k (suc G.now) G.read e)) (T.stored e))
 
-  -- EVERY CLAUSE holds_law AFTER THE CALL
+  -- EVERY CLAUSE HOLDS AFTER THE CALL
   pub fine_turn : Fine Y G'
   fine_turn = record {
     zero_law = subst (λ (S : Shared). S.state 0 ≡ Aborted) (sym T.shared)

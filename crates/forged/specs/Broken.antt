@@ -1,4 +1,4 @@
--- BROKEN MACHINES: mistakes and shams of document 01, and others that leave one thing out. Which of demand 3 and the own_step bounds each
+-- BROKEN MACHINES: mistakes and shams of document 01, and others that leave one thing out. Which of demand 3 and the own-step bounds each
 -- fails, and in which field, stands in proofs/; refuses_all meets demand 3 (proofs/Beyond.antt).
 use Rattle.std.specs.Prelude.{ℕ, zero, suc, ◌+◌, Bool, true, false, [], eqb, ltb, get_or, set}
 use Rattle.rules.specs.Words.{State, InProgress, Committed, Aborted, Cell, Place, L1, H4, H5, H6, H7, H8, Seen, Move}
@@ -39,7 +39,7 @@ values_only =
     let now = cell_at (record_at m (record_of a)).cells ch.field in
     pick (isH 7 q) (Write (record_of a) ch.field (by_value now ch.old) (record { value = ch.new; stamp = u })) a)
 
--- "Answering no at H3 without looking at all_frozen"
+-- "Answering no at H3 without looking at allFrozen"
 unfoldable pub no_without_frozen : Machine → Call → Out
 no_without_frozen = seeing (λ m q s. pick (isH 3 q) (saw_bit false) s)
 

@@ -1,2 +1,2 @@
-// No code: runs in which each sentence of demand 3 and each own_step bound speaks of something, and broken machines that fail one of them.
+// No code: runs in which each sentence of demand 3 and each own-step bound speaks of something, and broken machines that fail one of them.
 #![tactic(auto)]

@@ -12,7 +12,7 @@ use Rattle.rules.specs.Step.{dropped, drop_first}
 use Rattle.hand.specs.declared.Turned.{Turned}
 use Rattle.hand.specs.Hand.{clip, links_of, number_of, turn_of, hand_by, put_turn, turn_in}
 
--- THE links_law THAT A CALL DROPS, one by one: none yet, one more
+-- THE LINKS THAT A CALL DROPS, one by one: none yet, one more
 pub drop_none : (ls : List Link) (t : ℕ) (l : List ℕ) → ls ≡ drop_first ls t l 0
 unfolding drop_first
 drop_none ls t l = refl

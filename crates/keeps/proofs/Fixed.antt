@@ -33,7 +33,7 @@ alike x = record { n = refl; v = refl; r = refl; written = refl; field = refl; n
 touched : (a : Access) (x : Change) → Same (change_by a x) x
 touched a x = record { n = refl; v = refl; r = refl; written = refl; field = refl; new = refl; old = refl; infos = refl }
 
--- an access alters a change's state and all_frozen alone
+-- an access alters a change's state and allFrozen alone
 pub by_access : (a : Access) (cs : List Change) (c u : ℕ) → Same (get_or (set cs c (change_by a (get_or cs c no_change))) u no_change) (get_or cs u no_change)
 by_access a cs c u =
     any (λ (y : Change). Same y (get_or cs u no_change)) cs c (change_by a (get_or cs c no_change)) no_change u

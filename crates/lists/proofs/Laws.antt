@@ -5,7 +5,7 @@ use native.Mathlib.Numerals.{add-one}
 use native.Mathlib.Omega.{arith}
 use native.Mathlib.Nat.{le_antisymm, le_of_suc-le-suc}
 use mathlib.Core.Path.{◌≡◌, refl, sym, ◌∙◌}
-use mathlib.Core.Bool.{Bool, true, false, not, false≢true}
+use mathlib.Core.Bool.{Bool, true, false, false≢true}
 use Rattle.rules.specs.Claim.{both, given, all_below, test}
 use Rattle.rules.specs.Shape.{within}
 use Rattle.rules.proofs.Exact.{both_on, all_is, told}

@@ -111,14 +111,14 @@ pub runner_run_lent : OnceLent 2 runner-run-kinds.ps runner-run-kinds.r runner-r
 runner_run_lent κs a o p s t e f = e.1 ∙ sym f.1
 
 -- what the static library exports
-pub sanding_refusal_lem : Once 1 sanding-refusal-kinds.ps sanding-refusal-kinds.r sanding-refusal-reads.Post
-sanding_refusal_lem κs a o p s t e f = e ∙ sym f
+pub sanding_refusal : Once 1 sanding-refusal-kinds.ps sanding-refusal-kinds.r sanding-refusal-reads.Post
+sanding_refusal κs a o p s t e f = e ∙ sym f
 
-pub sanding_room_lem : Once 1 sanding-room-kinds.ps sanding-room-kinds.r sanding-room-reads.Post
-sanding_room_lem κs a o p s t e f = e ∙ sym f
+pub sanding_room : Once 1 sanding-room-kinds.ps sanding-room-kinds.r sanding-room-reads.Post
+sanding_room κs a o p s t e f = e ∙ sym f
 
-pub sanding_run_lem : Once 2 sanding-run-kinds.ps sanding-run-kinds.r sanding-run-reads.Post
-sanding_run_lem κs a o p s t e f = e.0 ∙ sym f.0
+pub sanding_run : Once 2 sanding-run-kinds.ps sanding-run-kinds.r sanding-run-reads.Post
+sanding_run κs a o p s t e f = e.0 ∙ sym f.0
 
 pub sanding_run_lent : OnceLent 2 sanding-run-kinds.ps sanding-run-kinds.r sanding-run-reads.Post (λ κs s. s.1.0.now)
 sanding_run_lent κs a o p s t e f = e.1 ∙ sym f.1

@@ -11,7 +11,7 @@ use Rattle.rules.specs.Places.{resume}
 use Rattle.rules.specs.Resume.{on, verdict, after_held, at_mark, first_from}
 use Rattle.orders.specs.Demand.{Brings, at_h3, at_h4, at_h8, Works, h1, h2, h3, h4, h5, h6, h7, h8, leads, answers}
 
--- what a move is to a task that works on u and, at H3, read all_frozen
+-- what a move is to a task that works on u and, at H3, read allFrozen
 abbrev pub Finishing : ℕ → After → Bool → Place → Move → Type 0
 Finishing u after frozen q v = (Works u after v.place × (v.answer ≡ Accepted))
     ⊎ ((yes : Bool) × Brings u after frozen q yes × (v.place ≡ leads after yes) × (v.answer ≡ answers after yes))

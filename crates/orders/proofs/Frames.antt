@@ -83,7 +83,7 @@ module _ (m : Machine) (F : Fine m) where
       drop_apart stored t x.list v.drop s r d r32 (list<32 m S t h.0)
       ∙ get_or-set_other m.links (slot t a) (slot s r) link no_link (slots_apart t s a r d (record<32 m S t h.0) r32))
 
--- THE TASK'S OWN links_law
+-- THE TASK'S OWN LINKS
 module _ (ls : List Link) (t r : ℕ) where
   -- a link as it was, or dropped
   dropped_or_same : (l : List ℕ) (n : ℕ) → Relinked no_reading (get_or ls (slot t r) no_link) r (get_or (drop_first ls t l n) (slot t r) no_link)

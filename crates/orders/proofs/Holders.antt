@@ -15,7 +15,7 @@ use Rattle.clauses.proofs.Course.{Course, X, S, history, fine, Starts, not_taken
 use Rattle.clauses.proofs.Came.{Sets, sets_by, Since, info_came}
 use Rattle.clauses.proofs.Closed.{Marked, marked_by}
 use Rattle.clauses.proofs.Sentences.{happened}
-use Rattle.orders.specs.Demand.{info, mark, Change, Closes, During, Effect, Holds, Verdict}
+use Rattle.orders.specs.Demand.{info, Change, Closes, During, Effect, Holds, Verdict}
 use Rattle.orders.proofs.Run.{Run, course}
 use Rattle.orders.proofs.Changes.{terms, makes, alone, during}
 use Rattle.orders.proofs.Effects.{bit, is_in, effect}

@@ -21,7 +21,7 @@ use Rattle.clauses.proofs.Course.{Course, X, S, history, fine, turn, guard, ever
 use Rattle.clauses.proofs.Came.{Sets}
 use Rattle.clauses.proofs.Sentences.{happened, because, never}
 use Rattle.orders.specs.Demand.{Brings, at_h3, at_h4, at_h8, Works, h3, h4, h8}
-use Rattle.orders.specs.Demand.{before, place, info, Change, named, During, Effect, Holds, LinkedRead, Verdict}
+use Rattle.orders.specs.Demand.{before, place, Change, named, During, Effect, Holds, LinkedRead, Verdict}
 use Rattle.orders.proofs.Calls.{held}
 use Rattle.orders.proofs.Run.{Run, course, place_known}
 use Rattle.orders.proofs.Changes.{another, terms, makes, alone, during, change_at_lem}

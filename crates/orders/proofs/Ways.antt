@@ -11,7 +11,6 @@ use Rattle.rules.specs.Words.{Answer, Accepted, Snapshot, Finalized, Fail, Yes, 
 use Rattle.table.specs.Table.{pick}
 use Rattle.rules.specs.Places.{resume}
 use Rattle.rules.specs.Resume.{on, done, snapshot, no_and_drop, verdict, after_l4, after_l7, after_l8, after_l10, after_held, first_from}
-use Rattle.orders.specs.Demand.{place}
 
 -- one more than the record that an LLX on its way to a snapshot reads, 0 at all other places
 abbrev back : After → ℕ

@@ -47,7 +47,7 @@ works_nonzero S G cs u after q h6 h = h.0
 works_nonzero S G cs u after q h7 h = h.0
 works_nonzero S G cs u after q h8 h = h.0
 
--- what H3 sees is all_frozen
+-- what H3 sees is allFrozen
 sees : (S : Shared) (s : Seen) (u : ℕ) (after : After) (q : Place) (v : Bool) → Saw S s q → Brings u after s.bit q v → Brings u after (S.frozen u) q v
 sees S s u after q v w (at_h3 e) = at_h3 (sym w ∙ e)
 sees S s u after q v w at_h4 = at_h4

@@ -196,7 +196,7 @@ fn freeze(x: Change) -> Change
     out
 }
 
-// The change x after the access: an abort or a commit sets its state, a freeze its all_frozen.
+// The change x after the access: an abort or a commit sets its state, a freeze its allFrozen.
 pub fn change_by(a: Access, x: Change) -> Change
     ensures { result ≡ change_by a x }
 {

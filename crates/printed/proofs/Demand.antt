@@ -1,4 +1,4 @@
--- DEMAND 3 holds_law OF WHAT IS PRINTED: the run that the runner's text tells of is a run as demand 3 has it, of the sheet's events from the
+-- DEMAND 3 HOLDS OF WHAT IS PRINTED: the run that the runner's text tells of is a run as demand 3 has it, of the sheet's events from the
 -- sheet's fresh table; so every sentence of the demand holds of it.
 use Prim.Native.Nat.{ℕ, zero, suc}
 use mathlib.Core.Path.{◌≡◌, refl, ap}

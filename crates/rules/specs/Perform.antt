@@ -20,7 +20,7 @@ abbrev pub saw_state : State → Seen
 saw_state s = record { bit = false; number = 0; cell = no_cell; state = s }
 
 -- WHAT AN ACCESS DOES: the record and the change whose words it touches, 0 where it touches none; what it sees of them; and what it makes
--- of the words of a record, cells, mark and info, and of those of a change, state and all_frozen
+-- of the words of a record, cells, mark and info, and of those of a change, state and allFrozen
 pub record Touch : Type 0 where
   pub touched : ℕ
   pub change : ℕ

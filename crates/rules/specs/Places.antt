@@ -1,5 +1,5 @@
--- THE places_law, document 01's list of them: at each one the operation that the task is in, "Each STEP makes one" shared access, and "Local
--- work rides on it". A shared word is a mark, an info, a cell, a change's state or its all_frozen. What a change wrote down when it started
+-- THE PLACES, document 01's list of them: at each one the operation that the task is in, "Each STEP makes one" shared access, and "Local
+-- work rides on it". A shared word is a mark, an info, a cell, a change's state or its allFrozen. What a change wrote down when it started
 -- is fixed, so to look at it is no access.
 use Rattle.std.specs.Prelude.{ℕ, ◌+◌, Bool, true, false, List, get_or}
 use Rattle.rules.specs.Words.{Change, After, Own, AtL8, AtL11, Operation, InNone, InLlx, InScx, InVlx, InRead, Seen, Move, TaskIdle, Value, Refused}
@@ -54,10 +54,10 @@ meaning (L11 r) = in_llx 0 (ReadInfo r) (λ s. after_l11 s.number)
 meaning (H1 u i after) =
     helps u after (λ ch. Hold (get_or ch.v i 0) (get_or ch.infos i 0) u) (λ s ch. on (after_h1 u i ch.n after s.bit))
 meaning (H2 u i after) = helps u after (λ ch. ReadInfo (get_or ch.v i 0)) (λ s ch. on (after_h2 u i ch.n after s.number))
--- H3 read all_frozen. H4 set Aborted
+-- H3 read allFrozen. H4 set Aborted
 meaning (H3 u after) = helps u after (λ ch. ReadFrozen u) (λ s ch. after_h3 u after s.bit)
 meaning (H4 u after) = helps u after (λ ch. Abort u) (λ s ch. verdict false after)
--- H5 set all_frozen. H6 mark a record of R
+-- H5 set allFrozen. H6 mark a record of R
 meaning (H5 u after) = helps u after (λ ch. Freeze u) (λ s ch. on (at_mark u (first_from ch.r 0) after))
 meaning (H6 u i after) = helps u after (λ ch. Close (get_or ch.v i 0)) (λ s ch. on (at_mark u (first_from ch.r (i + 1)) after))
 -- H7 if the cell equals the old cell, set it to the new value with stamp U. H8 set Committed

@@ -81,7 +81,7 @@ after_h1 u i n after held = pick held (after_held u i n after) (H2 u i after)
 abbrev pub after_h2 : ℕ → ℕ → ℕ → After → ℕ → Place
 after_h2 u i n after now = pick (eqb now u) (after_held u i n after) (H3 u after)
 
--- "H3 read all_frozen: yes gives verdict yes; no leads to H4"
+-- "H3 read allFrozen: yes gives verdict yes; no leads to H4"
 abbrev pub after_h3 : ℕ → After → Bool → Move
 after_h3 u after frozen = pick frozen (verdict true after) (on (H4 u after))
 

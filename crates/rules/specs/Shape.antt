@@ -1,4 +1,4 @@
--- THE shape_law: document 01's sentence, its phrases above what renders them. What no line names is ignored: entries beyond the counts,
+-- THE SHAPE: document 01's sentence, its phrases above what renders them. What no line names is ignored: entries beyond the counts,
 -- the info and cells of a link that is none, list or cells that the task's place does not use, and entry 0 of the changes.
 use Rattle.std.specs.Prelude.{ℕ, suc, Bool, false, not, List, get_or, eqb}
 use Rattle.rules.specs.Words.{Cell, Record, Change, Link, Machine, After, Own, AtL8, AtL11}

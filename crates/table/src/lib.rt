@@ -34,7 +34,7 @@ pub enum State {
     Aborted,
 }
 
-// An SCX-record: what an SCX wrote down when it started, its state and all_frozen.
+// An SCX-record: what an SCX wrote down when it started, its state and allFrozen.
 #[derive(Clone, Copy)]
 pub struct Change {
     pub n: u8,

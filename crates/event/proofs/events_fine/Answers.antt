@@ -1,8 +1,7 @@
 -- `event::events_fine`: the loop has passed i events, each of them fine.
-use Prim.Native.Nat.{◌-◌}
 use native.Mathlib.Omega.{arith}
 use Rattle.lists.proofs.Laws.{none_yet, one_more, one_fails, all_passed, said_yes, said_no}
-use Rattle.event.specs.Event.{event_fine, events_fine}
+use Rattle.event.specs.Event.{events_fine}
 use Rattle.event.proofs.events_fine.Goals as goal
 
 pub loop-i-init : goal.loop-i-init

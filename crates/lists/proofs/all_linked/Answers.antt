@@ -1,7 +1,5 @@
 -- `lists::all_linked`: the loop has passed i places, each with a link.
-use Prim.Native.Nat.{◌-◌}
 use native.Mathlib.Omega.{arith}
-use mathlib.Core.Bool.{false}
 use Rattle.lists.proofs.Laws.{none_yet, one_more, one_fails, all_passed, said_yes, said_no}
 use Rattle.lists.proofs.all_linked.Goals as goal
 

@@ -1,7 +1,5 @@
 -- `lists::apart`: the loop has passed i entries, each new among those before it.
-use Prim.Native.Nat.{◌-◌}
 use native.Mathlib.Omega.{arith}
-use mathlib.Core.Bool.{not}
 use Rattle.lists.proofs.Laws.{none_yet, one_more, one_fails, all_passed, said_yes, said_no}
 use Rattle.lists.proofs.apart.Goals as goal
 

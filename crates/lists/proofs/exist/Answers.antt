@@ -1,7 +1,5 @@
 -- `lists::exist`: the loop has passed i entries, each a record.
-use Prim.Native.Nat.{◌-◌}
 use native.Mathlib.Omega.{arith}
-use lib.Dec.{ltb}
 use borrow.Author.Tests.{lt-ltb, le-ltb}
 use Rattle.lists.proofs.Laws.{none_yet, one_more, one_fails, all_passed}
 use Rattle.lists.proofs.exist.Goals as goal

@@ -1,7 +1,5 @@
 -- `lists::infos_known`: the loop has passed i infos, each a used number.
-use Prim.Native.Nat.{◌-◌}
 use native.Mathlib.Omega.{arith}
-use lib.Dec.{leb}
 use borrow.Author.Tests.{lt-leb, le-leb}
 use Rattle.lists.proofs.Laws.{none_yet, one_more, one_fails, all_passed}
 use Rattle.lists.proofs.infos_known.Goals as goal

@@ -1,9 +1,7 @@
 -- `lists::is_new`: the loop has passed i entries, each another than entry j.
-use Prim.Native.Nat.{◌-◌}
 use native.Mathlib.Omega.{arith}
 use mathlib.Core.Path.{ap}
 use mathlib.Core.Bool.{not}
-use lib.Dec.{eqb}
 use borrow.Author.Tests.{eq-eqb, ne_eqb}
 use Rattle.lists.proofs.Laws.{none_yet, one_more, one_fails, all_passed}
 use Rattle.lists.proofs.is_new.Goals as goal

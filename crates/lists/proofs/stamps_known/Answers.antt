@@ -1,9 +1,6 @@
 -- `lists::stamps_known`: the loop has passed i stamps, each a used number.
-use Prim.Native.Nat.{◌-◌}
 use native.Mathlib.Omega.{arith}
-use lib.Dec.{leb}
 use borrow.Author.Tests.{lt-leb, le-leb}
-use Rattle.table.specs.Table.{cell_at}
 use Rattle.lists.proofs.Laws.{none_yet, one_more, one_fails, all_passed}
 use Rattle.lists.proofs.stamps_known.Goals as goal
 

@@ -1,8 +1,6 @@
 -- `shape::change_fine`: the chain of its six tests.
 use mathlib.Core.Path.{refl}
 use borrow.Author.Tests.{lt-ltb, le-ltb, le-leb, lt-leb}
-use Rattle.rules.specs.Claim.{both}
-use Rattle.rules.specs.Shape.{list_fine, in_list}
 use Rattle.lists.proofs.Laws.{both_yes, both_no}
 use Rattle.shape.proofs.change_fine.Goals as goal
 

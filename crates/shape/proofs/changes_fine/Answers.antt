@@ -1,9 +1,6 @@
 -- `shape::changes_fine`: the loop has passed i used changes, each fine.
-use Prim.Native.Nat.{◌-◌}
 use native.Mathlib.Numerals.{add-one}
 use native.Mathlib.Omega.{arith}
-use Rattle.rules.specs.Claim.{test}
-use Rattle.rules.specs.Shape.{change_fine}
 use Rattle.lists.proofs.Laws.{none_yet, one_more, one_fails, all_passed, said_yes, said_no}
 use Rattle.shape.proofs.changes_fine.Goals as goal
 

@@ -2,8 +2,7 @@
 use native.Mathlib.Omega.{arith}
 use mathlib.Core.Path.{refl}
 use borrow.Author.Tests.{lt-ltb}
-use Rattle.rules.specs.Claim.{both}
-use Rattle.rules.specs.Shape.{within, shape, in_shape}
+use Rattle.rules.specs.Shape.{shape, in_shape}
 use Rattle.lists.proofs.Laws.{at_most, both_yes, both_no}
 use Rattle.shape.proofs.in_shape.Goals as goal
 

@@ -1,14 +1,3 @@
-use Prim.Native.Nat.{◌<◌}
-use native.Mathlib.Omega.{arith}
-use mathlib.Core.Path.{◌≡◌, refl}
-use mathlib.Core.Bool.{Bool}
-use lib.Dec.{ltb}
-use borrow.Author.Tests.{lt-ltb}
-use Rattle.rules.specs.Claim.{both, test}
-use Rattle.rules.specs.Shape.{within}
-use Rattle.lists.proofs.Laws.{both_yes}
-use Rattle.shape.proofs.in_shape.Given as goal
-
 -- byte : (c : tie.Start) → c.args.m.used < 256
 -- byte c = omega arith
 

@@ -1,7 +1,5 @@
 -- `shape::links_fine`: the loop has passed i tasks, each with fine links.
-use Prim.Native.Nat.{◌-◌}
 use native.Mathlib.Omega.{arith}
-use Rattle.rules.specs.Claim.{test}
 use Rattle.lists.proofs.Laws.{none_yet, one_more, one_fails, all_passed, said_yes, said_no}
 use Rattle.shape.proofs.links_fine.Goals as goal
 

@@ -1,8 +1,5 @@
 -- `shape::records_fine`: the loop has passed i records, each fine.
-use Prim.Native.Nat.{◌-◌}
 use native.Mathlib.Omega.{arith}
-use Rattle.rules.specs.Claim.{test}
-use Rattle.rules.specs.Shape.{record_fine}
 use Rattle.lists.proofs.Laws.{none_yet, one_more, one_fails, all_passed, said_yes, said_no}
 use Rattle.shape.proofs.records_fine.Goals as goal
 

@@ -1,14 +1,12 @@
 -- `sheet::layout_of`: the tests in the order of the refusals. Each answer first says what is known behind the tests that passed.
-use Prim.Native.Nat.{◌+◌, ◌-◌, ◌*◌, ◌≤◌}
 use native.Mathlib.Omega.{arith}
 use mathlib.Core.Path.{◌≡◌, ap, ◌∙◌}
 use mathlib.Core.Bool.{true}
-use lib.ListN.{length}
 use Rattle.lists.proofs.Laws.{said_yes, said_no}
 use Rattle.sheet.specs.declared.Layout.{Layout}
 use Rattle.sheet.specs.declared.Sheet.TheVariants.{Read}
 use Rattle.sheet.specs.Layout.{layout_of}
-use Rattle.sheet.proofs.Refusals.{size, tag, counts, back, events, refused_20, refused_21, refused_22, refused_23, refused_24, accepted, long_enough}
+use Rattle.sheet.proofs.Refusals.{size, tag, counts, back, refused_20, refused_21, refused_22, refused_23, refused_24, accepted, long_enough}
 use Rattle.sheet.proofs.Refusals.{tag_is, at_is, counts_is, back_is, filled_is, events_is}
 use Rattle.sheet.proofs.layout_of.Goals as goal
 

@@ -1,14 +1,3 @@
-use Prim.Native.Nat.{ℕ, ◌+◌, ◌-◌, ◌*◌, ◌≤◌}
-use mathlib.Core.Path.{◌≡◌, ◌∙◌}
-use mathlib.Core.Bool.{true}
-use mathlib.Core.List.{List}
-use lib.ListN.{length}
-use Rattle.lists.proofs.Laws.{said_yes}
-use Rattle.sheet.specs.Layout.{layout_of}
-use Rattle.sheet.proofs.Refusals.{size, tag, counts, back, events, long_enough}
-use Rattle.sheet.proofs.Refusals.{tag_is, at_is, counts_is, back_is, filled_is, events_is}
-use Rattle.sheet.proofs.layout_of.Given as goal
-
 -- abbrev s1 : tie.After-size-fine → List ℕ
 -- s1 c = c.before.before.args.s.now
 

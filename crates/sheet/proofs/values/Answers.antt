@@ -1,5 +1,5 @@
 -- `sheet::values`: the loop has filled the first i values.
-use Prim.Native.Nat.{◌*◌, ◌-◌}
+use Prim.Native.Nat.{◌*◌}
 use native.Mathlib.Omega.{arith}
 use mathlib.Core.Path.{◌≡◌, refl}
 use Rattle.table.specs.Table.{tabulate}

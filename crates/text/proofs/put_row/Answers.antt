@@ -1,5 +1,4 @@
 -- `text::put_row` meets its contract.
-use Prim.Native.Nat.{◌-◌}
 use native.Mathlib.Omega.{arith}
 use borrow.Author.Rules.{rules}
 use Rattle.text.proofs.Laws.{first, again, done}

@@ -1,5 +1,5 @@
 -- `event::twelve::short_event`: the loop has filled the first k bytes.
-use Prim.Native.Nat.{◌+◌, ◌-◌}
+use Prim.Native.Nat.{◌+◌}
 use native.Mathlib.Omega.{arith}
 use mathlib.Core.Path.{◌≡◌, refl}
 use Rattle.table.specs.Table.{tabulate}

@@ -1,5 +1,4 @@
 -- `shape::place::list_linked`: the loop has passed i records of the list, each with a link.
-use Prim.Native.Nat.{◌-◌}
 use native.Mathlib.Omega.{arith}
 use Rattle.lists.proofs.Laws.{none_yet, one_more, one_fails, all_passed, said_yes, said_no}
 use Rattle.shape.proofs.place.list_linked.Goals as goal

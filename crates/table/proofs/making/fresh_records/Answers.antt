@@ -1,5 +1,4 @@
 -- `table::making::fresh_records` meets its contract.
-use Prim.Native.Nat.{◌-◌}
 use mathlib.Core.Path.{◌≡◌}
 use borrow.Author.Rules.{rules}
 use native.Mathlib.Omega.{arith}
