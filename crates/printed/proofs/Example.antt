@@ -1,11 +1,7 @@
--- THE WHOLE EXAMPLE, computed: the text of its 196 bytes is what document 01 prints, byte for byte; and the fourth sham, a tally made
--- up: a text that differs from it in the first number of `T` alone is not the text of these bytes.
+-- THE WHOLE EXAMPLE, computed: the text of its 196 bytes is what document 01 prints, byte for byte.
 use Prim.Native.Nat.{ℕ}
-use native.Mathlib.Omega.{arith}
-use mathlib.Core.Path.{◌≡◌, refl, sym, ap, ◌∙◌}
+use mathlib.Core.Path.{◌≡◌, refl}
 use mathlib.Core.List.{List, [], ◌∷◌, ◌++◌}
-use mathlib.Core.Logic.{◌≢◌}
-use lib.ListN.{get_or, set}
 use Rattle.table.specs.Table.{tabulate, same_cell}
 use Rattle.table.specs.Fresh.{fresh_records, fresh_machine, fresh}
 use Rattle.rules.specs.Perform.{seen, perform}
@@ -24,7 +20,7 @@ use Rattle.runner.specs.Run.{machine_at, out_at, told_at, event_line, run_text, 
 use Rattle.back.specs.Example.{example_bytes}
 
 -- document 01's seventeen lines
-pub printed : List ℕ
+unfoldable pub printed : List ℕ
 printed =
     (49 ∷ 32 ∷ 48 ∷ 32 ∷ 48 ∷ 10 ∷ [])
     ++ (50 ∷ 32 ∷ 48 ∷ 32 ∷ 48 ∷ 10 ∷ [])
@@ -47,13 +43,3 @@ printed =
 pub example_printed : text_of example_bytes ≡ printed
 unfolding printed tabulate same_cell fresh_records fresh_machine fresh seen perform drop_first settle access_at move_at step both given all_below shape in_shape start linked_at rules_of refused started next uses call_of event_fine event_at events_fine layout_of events_part values_part sheet_of numbers parts_of counts tally_of first_of lead digits joined answer_line record_line tally_line machine_at out_at told_at event_line run_text table_of text_of
 example_printed = refl
-
--- `T 0 0 0`: no change made
-pub made_up : List ℕ
-made_up = set printed 120 48
-
-pub made_up_refused : text_of example_bytes ≢ made_up
-unfolding made_up printed
-made_up_refused e =
-    let z : ◌≡◌ {A = ℕ} 49 48 = ap (λ (l : List ℕ). get_or l 120 0) (sym example_printed ∙ e) in
-    absurd (omega arith)

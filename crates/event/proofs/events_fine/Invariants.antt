@@ -1,3 +1,4 @@
+-- `event::events_fine`: what its loop keeps and the number that falls.
 use Prim.Native.Nat.{◌-◌}
 use Rattle.lists.proofs.Laws.{SoFar}
 use Rattle.event.specs.Event.{event_fine, event_bytes}

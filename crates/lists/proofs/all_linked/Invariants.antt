@@ -1,3 +1,4 @@
+-- `lists::all_linked`: what its loop keeps and the number that falls.
 use Prim.Native.Nat.{◌-◌}
 use mathlib.Core.Bool.{false}
 use lib.ListN.{get_or}

@@ -1,3 +1,4 @@
+-- `lists::exist`: what its loop keeps and the number that falls.
 use Prim.Native.Nat.{◌-◌}
 use lib.ListN.{get_or}
 use lib.Dec.{ltb}

@@ -1,3 +1,4 @@
+-- `lists::in_list`: what its loop keeps and the number that falls.
 use Prim.Native.Nat.{◌-◌}
 use mathlib.Core.Bool.{false}
 use lib.ListN.{get_or}

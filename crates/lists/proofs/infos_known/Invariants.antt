@@ -1,3 +1,4 @@
+-- `lists::infos_known`: what its loop keeps and the number that falls.
 use Prim.Native.Nat.{◌-◌}
 use lib.ListN.{get_or}
 use lib.Dec.{leb}

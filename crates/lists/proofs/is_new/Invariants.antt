@@ -1,3 +1,4 @@
+-- `lists::is_new`: what its loop keeps and the number that falls.
 use Prim.Native.Nat.{◌-◌}
 use mathlib.Core.Bool.{not}
 use lib.ListN.{get_or}

@@ -1,3 +1,4 @@
+-- `lists::stamps_known`: what its loop keeps and the number that falls.
 use Prim.Native.Nat.{◌-◌}
 use lib.Dec.{leb}
 use Rattle.table.specs.Table.{cell_at}

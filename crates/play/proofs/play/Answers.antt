@@ -1,9 +1,9 @@
 -- `play::play` meets its contract.
-use Prim.Native.Nat.{◌-◌, ◌%◌}
+use Prim.Native.Nat.{◌%◌}
 use native.Mathlib.Omega.{arith}
 use mathlib.Core.Path.{◌≡◌}
 use borrow.Author.Rules.{rules}
-use Rattle.hand.proofs.Stored.{lost, none_lost, one_more_lost, near_is, turned}
+use Rattle.hand.proofs.Stored.{none_lost, one_more_lost, near_is, turned}
 use Rattle.play.proofs.Glue.{begins, goes_on, ends}
 use Rattle.play.proofs.play.Goals as goal
 

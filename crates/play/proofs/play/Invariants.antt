@@ -1,3 +1,4 @@
+-- `play::play`: what its loops keep and the numbers that fall.
 use Prim.Native.Nat.{◌≤◌, ◌-◌}
 use mathlib.Core.Path.{◌≡◌}
 use Rattle.hand.proofs.Stored.{lost}

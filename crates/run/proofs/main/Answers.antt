@@ -1,5 +1,5 @@
 -- `run::main` meets its contract: its buffer has room for every sheet, and what it writes lies in it.
-use Rattle.std.proofs.Common.{arith, sym, ap, ◌∙◌, ◌≤◌, length}
+use Rattle.std.proofs.Common.{arith, sym, ap, ◌∙◌}
 use lib.Seq.{length-take-le}
 use Rattle.runner.proofs.Room.{in_buffer, enough}
 use Rattle.run.specs.Ran.{is_text}

@@ -1,3 +1,4 @@
+-- `runner::put_records`: what its loop keeps and the number that falls.
 use Prim.Native.Nat.{◌*◌, ◌≤◌, ◌-◌}
 use lib.ListN.{length}
 use Rattle.text.specs.Text.{joined}

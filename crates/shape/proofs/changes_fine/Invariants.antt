@@ -1,3 +1,4 @@
+-- `shape::changes_fine`: what its loop keeps and the number that falls.
 use Prim.Native.Nat.{suc, ◌-◌}
 use Rattle.table.specs.Table.{change_at}
 use Rattle.rules.specs.Claim.{test}

@@ -1,3 +1,4 @@
+-- `shape::links_fine`: what its loop keeps and the number that falls.
 use Prim.Native.Nat.{◌-◌}
 use Rattle.table.specs.Table.{link_at}
 use Rattle.rules.specs.Claim.{each, test}

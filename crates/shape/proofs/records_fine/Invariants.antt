@@ -1,3 +1,4 @@
+-- `shape::records_fine`: what its loop keeps and the number that falls.
 use Prim.Native.Nat.{◌-◌}
 use Rattle.table.specs.Table.{record_at}
 use Rattle.rules.specs.Claim.{test}

@@ -1,3 +1,4 @@
+-- `shape::tasks_fine`: what its loop keeps and the number that falls.
 use Prim.Native.Nat.{◌-◌}
 use Rattle.rules.specs.Claim.{test}
 use Rattle.rules.specs.Shape.{task_fine}

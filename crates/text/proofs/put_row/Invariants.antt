@@ -1,3 +1,4 @@
+-- `text::put_row`: what its loop keeps and the number that falls.
 use Prim.Native.Nat.{◌≤◌, ◌-◌}
 use lib.ListN.{length}
 use Rattle.text.specs.Text.{word_at}

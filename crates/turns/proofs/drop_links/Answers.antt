@@ -2,7 +2,6 @@
 use Rattle.hand.proofs.Stored.{drop_none, drop_more}
 use borrow.Author.Rules.{rules}
 use mathlib.Core.Path.{◌≡◌}
-use Prim.Native.Nat.{◌-◌}
 use native.Mathlib.Omega.{arith}
 use Rattle.turns.proofs.drop_links.Goals as goal
 

@@ -1,3 +1,4 @@
+-- `turns::drop_links`: what its loop keeps and the number that falls.
 use Rattle.hand.specs.Hand.{clip}
 use Rattle.rules.specs.Step.{drop_first}
 use mathlib.Core.Path.{◌≡◌}

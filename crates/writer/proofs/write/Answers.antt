@@ -1,9 +1,7 @@
 -- `writer::write`: the tests in the order of the refusals; then the sheet is put.
 use native.Mathlib.Omega.{arith}
-use mathlib.Core.Bool.{true}
 use Rattle.lists.proofs.Laws.{said_yes, said_no}
-use Rattle.event.specs.Event.{events_fine}
-use Rattle.writer.proofs.Writing.{given, refused_22, refused_24, refused_25, written, given_sizes}
+use Rattle.writer.proofs.Writing.{refused_22, refused_24, refused_25, written, given_sizes}
 use Rattle.writer.proofs.write.Goals as goal
 
 pub returns-then-not-given_fine : goal.returns-then-not-given_fine

@@ -1,3 +1,4 @@
+-- `event::twelve::short_event`: what its loop keeps and the number that falls.
 use Prim.Native.Nat.{◌+◌, ◌-◌, ◌≤◌}
 use mathlib.Core.Path.{◌≡◌}
 use lib.Dec.{ltb}

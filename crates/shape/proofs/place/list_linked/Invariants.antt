@@ -1,3 +1,4 @@
+-- `shape::place::list_linked`: what its loop keeps and the number that falls.
 use Prim.Native.Nat.{◌-◌}
 use lib.ListN.{get_or}
 use Rattle.lists.proofs.Laws.{SoFar}

@@ -1,3 +1,4 @@
+-- `table::making::fresh_records`: what its loop keeps and the number that falls.
 use Prim.Native.Nat.{◌≤◌, ◌-◌}
 use mathlib.Core.Path.{◌≡◌}
 use Rattle.table.specs.Fresh.{fresh_records}

@@ -1,8 +1,7 @@
 -- `writer::put::put_bytes`: the loop has written the first i bytes.
-use Prim.Native.Nat.{◌-◌}
 use native.Mathlib.Omega.{arith}
 use mathlib.Core.Path.{◌≡◌, refl}
-use lib.ListN.{length, take, length-set}
+use lib.ListN.{length, length-set}
 use lib.Seq.{take-length}
 use Rattle.writer.proofs.Stored.{byte_more}
 use Rattle.writer.proofs.put.put_bytes.Goals as goal

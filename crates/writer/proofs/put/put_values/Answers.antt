@@ -1,8 +1,7 @@
 -- `writer::put::put_values`: the loop has written the first i values.
-use Prim.Native.Nat.{◌-◌}
 use native.Mathlib.Omega.{arith}
 use mathlib.Core.Path.{◌≡◌, refl}
-use lib.ListN.{length, take, length-set}
+use lib.ListN.{length, length-set}
 use lib.Seq.{take-length}
 use Rattle.writer.specs.Write.{value_bytes}
 use Rattle.writer.proofs.Stored.{value_more}

@@ -1,3 +1,4 @@
+-- `writer::put::put_values`: what its loop keeps and the number that falls.
 use Prim.Native.Nat.{◌-◌, ◌≤◌}
 use mathlib.Core.Path.{◌≡◌}
 use lib.ListN.{length, take}
