@@ -11,7 +11,7 @@
 # - else an expression: each of its words of three letters and more is a name.
 # A single letter, also with an index as in `r_i`, is a variable or a printed letter. Beyond that only these words go unasked:
 BEGIN {
-  n = split("requires ensures result impl enum mut bool u16 set clone", word, " ") # of the language and of the kit's library
+  n = split("requires ensures result impl enum mut bool u16 set clone std", word, " ") # of the language and of the kit's library
   for (i = 1; i <= n; i++) known[word[i]] = 1
   program["valgrind"] = known["second"] = 1 # not of this repository; the second program's file
   claims = page == "docs/CLAIMS.md"
