@@ -1,5 +1,6 @@
 // The fresh table.
 ghost use Rattle.std.specs.Prelude.{◌≡◌, ◌+◌, ◌*◌, ◌≤◌, ◌<◌, length};
+ghost use Rattle.table.specs.Table.{no_cells};
 ghost use Rattle.table.specs.Fresh.{empty_record, fresh_record, fresh_records, in_range, within, fresh_machine, fresh};
 
 use crate::{Answer, Cell, Change, Link, Machine, Out, Place, Record, Refusal, State, Task};
@@ -116,28 +117,51 @@ fn fresh_machine(p: u8, n: u8, records: [Record; Machine::RECORDS]) -> Machine
     }
 }
 
+// What a fresh table is made of, and the answer.
+#[derive(Clone, Copy)]
+struct Given {
+    p: u8,
+    n: u8,
+    records: [Record; Machine::RECORDS],
+    answer: Answer,
+}
+
+// What a caller gave; refused, no task and no record.
+fn given_parts(p: u8, n: u8, values: &[u16]) -> Given
+    ensures { fresh p n values.now ≡ record { m = fresh_machine result.p result.n result.records; answer = result.answer; cells = no_cells } }
+{
+    if in_range(p, n, values.len()) {
+        Given {
+            p,
+            n,
+            records: fresh_records(n, values),
+            answer: Answer::Accepted,
+        }
+    } else {
+        Given {
+            p: 0,
+            n: 0,
+            records: [empty_record(); Machine::RECORDS],
+            answer: Answer::Refused {
+                why: Refusal::Counts,
+            },
+        }
+    }
+}
+
 impl Machine {
     // A fresh table: all idle, no links, no change used. Refused, it is the table of no task and no record.
+    // It is made in one place: each more would take room for a table of its own on the stack.
     pub fn fresh(p: u8, n: u8, values: &[u16]) -> Out
         ensures { result ≡ fresh p n values.now }
     {
         let cells = [Cell { value: 0, stamp: 0 }; Machine::FIELDS];
-        if in_range(p, n, values.len()) {
-            let m = fresh_machine(p, n, fresh_records(n, values));
-            Out {
-                m,
-                answer: Answer::Accepted,
-                cells,
-            }
-        } else {
-            let m = fresh_machine(0, 0, [empty_record(); Machine::RECORDS]);
-            Out {
-                m,
-                answer: Answer::Refused {
-                    why: Refusal::Counts,
-                },
-                cells,
-            }
+        let from = given_parts(p, n, values);
+        let m = fresh_machine(from.p, from.n, from.records);
+        Out {
+            m,
+            answer: from.answer,
+            cells,
         }
     }
 }
