@@ -4,8 +4,9 @@
  * and the library keeps neither after a call. No pointer may be null, not even with length 0, and a buffer must not overlap the sheet:
  * the compiler relies on that.
  *
- * There are no other demands: every sequence of bytes is a sheet or is refused. The library calls memcpy and nothing else, so it takes no
- * heap memory and asks nothing of the operating system; it has no variables, so threads may call it at once, each with its own buffer.
+ * There are no other demands: every sequence of bytes is a sheet or is refused. The library calls memcpy and memset and nothing else, so
+ * it takes no heap memory and asks nothing of the operating system; it has no variables, so threads may call it at once, each with its
+ * own buffer.
  */
 #ifndef SANDING_H
 #define SANDING_H

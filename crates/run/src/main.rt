@@ -1,7 +1,7 @@
 // The program: a run sheet on standard input, the text of its run on standard output. What it prints is in the crate runner.
 #![tactic(auto)]
 
-ghost use Rattle.std.specs.Prelude.{true, ◌≡◌, ◌≤◌, length, OnOk, IfOk};
+ghost use Rattle.std.specs.Prelude.{true, ◌≡◌, ◌≤◌, length, IfOk};
 ghost use Rattle.runner.specs.declared.Ran.TheVariants.{Text};
 ghost use Rattle.run.specs.Ran.{is_text};
 

@@ -17,7 +17,7 @@ pub trait Library {
     fn run(&self, sheet: &[u8], all: &mut [u8], lent: Range<usize>) -> Option<usize>;
 }
 
-/// The library of `rt staticlib sanding`.
+/// The library of `.ci/build sanding`.
 pub struct Linked;
 
 impl Library for Linked {
