@@ -1,4 +1,4 @@
--- `shape::in_shape`: the chain of its parts, in the order of the claim.
+-- `shape::in_shape`: the chain of its parts, in the order of the claim. The used count is a byte, so nothing is tested of it.
 use native.Mathlib.Omega.{arith}
 use mathlib.Core.Path.{refl}
 use borrow.Author.Tests.{lt-ltb}
@@ -10,9 +10,7 @@ pub records_fine-requires : goal.records_fine-requires
 records_fine-requires c = at_most _ _ c.within-then-within.ensures c.if-within-2.true
 
 pub tasks_fine-requires : goal.tasks_fine-requires
-tasks_fine-requires c =
-    at_most _ _ c.within.ensures
-    c.if-within.true
+tasks_fine-requires c = at_most _ _ c.within.ensures c.if-within.true
 
 pub links_fine-requires : goal.links_fine-requires
 links_fine-requires c = (
@@ -26,8 +24,7 @@ returns-then-tasks_fine c =
     both_yes c.within.ensures c.if-within.true
     (both_yes c.within-then-within.ensures c.if-within-2.true
     (both_yes refl (lt-ltb c.args.m.used 256 (omega arith))
-    (both_yes c.records_fine.ensures
-    c.if-records_fine.true
+    (both_yes c.records_fine.ensures c.if-records_fine.true
     (both_yes c.changes_fine.ensures c.if-changes_fine.true
     (both_yes c.tasks_fine.ensures c.if-tasks_fine.true c.links_fine.ensures)))))
 
