@@ -1,10 +1,9 @@
 -- A step on small values: what it leaves of the record, the change, the task and the link that it has in hand. `step` of the rules
 -- says the same on the table; the crate exact has the two agree.
 use Rattle.rules.specs.Words.{Record, Change, Task, Link, Access}
-use Rattle.table.specs.Table.{pick, no_cells}
 use Rattle.rules.specs.Perform.{seen_by, record_by, change_by}
 use Rattle.rules.specs.Places.{resume}
-use Rattle.rules.specs.Step.{task_by, link_by}
+use Rattle.rules.specs.Step.{task_by, link_by, drop_of, answer_of}
 use Rattle.act.specs.declared.Stored.{Stored}
 
 unfoldable pub act_of : Task → Access → Change → Record → Link → Stored
@@ -16,7 +15,6 @@ act_of x a ch rec link =
       change = change_by a ch;
       task = task_by x s v;
       link = link_by link x s v;
-      drop = v.drop;
-      answer = v.answer;
-      cells = pick v.store x.cells no_cells;
+      drop = drop_of v;
+      answer = answer_of x.cells v;
     }

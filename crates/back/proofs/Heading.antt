@@ -5,10 +5,10 @@ use mathlib.Core.Path.{◌≡◌, refl, ap}
 use mathlib.Core.List.{List, ◌++◌}
 use lib.ListN.{length, take, drop, length-append}
 use lib.Seq.{drop-append-add}
+use Rattle.rules.specs.Words.{Ok}
 use Rattle.rules.specs.Claim.{Says}
 use Rattle.rules.proofs.Exact.{told, passes}
 use Rattle.sheet.specs.declared.Layout.{Layout}
-use Rattle.sheet.specs.declared.Sheet.TheVariants.{Read}
 use Rattle.sheet.specs.Layout.{trailer, distance, layout_of, values_part, events_part, size_fine, distance_fine, sheet_of, parts_of}
 use Rattle.sheet.proofs.Laws.{Kept, read_kept, kept_read, Inside, read_inside}
 use Rattle.back.specs.Back.{ReadAs, Heading}
@@ -17,7 +17,7 @@ use Rattle.back.specs.Back.{ReadAs, Heading}
 behind : (h s : List ℕ) (k j : ℕ) → j ≡ length h + k → drop j (h ++ s) ≡ drop k s
 behind h s k j e = rw e (drop-append-add h s k)
 
-module _ (h s : List ℕ) (at : Layout) (e : sheet_of s ≡ Read at) (l : length (h ++ s) ≤ 65000) where
+module _ (h s : List ℕ) (at : Layout) (e : sheet_of s ≡ Ok at) (l : length (h ++ s) ≤ 65000) where
   inside : Inside s at
   inside = read_inside e
 

@@ -9,10 +9,9 @@ use lib.Seq.{take_at, drop_at, drop-drop, get_or-drop, get_or-take, length-take-
 use borrow.Author.Tests.{eqb-true, eq-eqb}
 use Rattle.table.specs.Table.{tabulate}
 use Rattle.table.proofs.Tabulate.{length_tabulate, get_d_tabulate}
+use Rattle.rules.specs.Words.{Ok}
 use Rattle.rules.proofs.Exact.{told, passes}
 use Rattle.sheet.specs.declared.Layout.{Layout}
-use Rattle.sheet.specs.declared.Sheet.TheVariants.{Read}
-use Rattle.writer.specs.declared.Written.TheVariants.{Sheet as WrittenSheet}
 use Rattle.event.specs.Event.{byte, pair}
 use Rattle.sheet.specs.Layout.{trailer, distance, layout_of, values_part, events_part, parts_size, sheet_of}
 use Rattle.writer.specs.Write.{low_first, sheet_size}
@@ -55,7 +54,7 @@ module _ (x : Parts) (count : ℕ) {space : ℕ} (below : AllBelow 65536 x.value
   front_size = omega (arith, length_value_bytes x.values, sized.values_are)
 
   whole_size : length (bytes_of x) ≡ sheet_size x.n count
-  whole_size = rw bytes_are (sheet_length x.p x.n count x.values x.events [] ok.given_kept)
+  whole_size = rw bytes_are (sheet_length x.p x.n count x.values x.events ok.given_kept)
 
   trailer_is : trailer (bytes_of x) ≡ last
   trailer_is =
@@ -111,7 +110,7 @@ module _ (x : Parts) (count : ℕ) {space : ℕ} (below : AllBelow 65536 x.value
   buffer_is : (old : List ℕ) → length old ≡ space → leaves x count old ≡ over (bytes_of x) old
   buffer_is old l = rw bytes_are (accepts_buffer old (rw l ok))
 
-  written_read : {size : ℕ} → writes x count space ≡ WrittenSheet size → WrittenThenRead x count space size
+  written_read : {size : ℕ} → writes x count space ≡ Ok size → WrittenThenRead x count space size
   written_read {size} e =
       let f = accepts_written ok in
       let size_is : size ≡ sheet_size x.n count = cc in
@@ -134,7 +133,7 @@ eight_are t e =
     ext_get_or 0 (tabulate 8 (byte t)) t (length_tabulate 8 (byte t) ∙ sym e)
     (λ i l. get_d_tabulate 8 (byte t) i 0 (rw length_tabulate at l))
 
-module _ (s : List ℕ) (at : Layout) (below : AllBelow 256 s) (e : sheet_of s ≡ Read at) where
+module _ (s : List ℕ) (at : Layout) (below : AllBelow 256 s) (e : sheet_of s ≡ Ok at) where
   inside : Inside s at
   inside = read_inside e
 

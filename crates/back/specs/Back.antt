@@ -4,10 +4,8 @@
 -- written_of and buffer_of. Bytes are below 256 and values below 65,536 by the types of the code; proofs/ has the claims proved.
 use Rattle.std.specs.Prelude.{ℕ, ◌+◌, ◌*◌, ◌<◌, ◌≤◌, ◌≡◌, List, ◌++◌, get_or, length, take, drop}
 use Rattle.table.specs.Table.{max_fields}
+use Rattle.rules.specs.Words.{Refusal, Result, Ok}
 use Rattle.sheet.specs.declared.Layout.{Layout}
-use Rattle.sheet.specs.declared.Sheet.TheVariants.{Read}
-use Rattle.writer.specs.declared.Written.{Written}
-use Rattle.writer.specs.declared.Written.TheVariants.{Sheet as WrittenSheet}
 use Rattle.sheet.specs.Layout.{Parts, values_part, events_part, values_in, sheet_of, parts_of, max_sheet}
 use Rattle.writer.specs.Write.{bytes_of, written_of, buffer_of}
 
@@ -16,7 +14,7 @@ abbrev pub AllBelow : ℕ → List ℕ → Type 0
 AllBelow most l = (i : ℕ) → i < length l → get_or l i 0 < most
 
 -- what the writer answers to parts and an event count, and what it leaves in the buffer
-abbrev pub writes : Parts → ℕ → ℕ → Written
+abbrev pub writes : Parts → ℕ → ℕ → Result ℕ Refusal
 writes x count room = written_of x.p x.n count x.values x.events room
 
 abbrev pub leaves : Parts → ℕ → List ℕ → List ℕ
@@ -31,7 +29,7 @@ abbrev pub placed : Parts → ℕ → ℕ → Layout
 placed x count from = record { p = x.p; n = x.n; count = count; from = from }
 
 pub record ReadAs (s : List ℕ) (x : Parts) (count from : ℕ) : Type 0 where
-  pub accepted : sheet_of s ≡ Read (placed x count from)
+  pub accepted : sheet_of s ≡ Ok (placed x count from)
   pub parts : parts_of s (placed x count from) ≡ x
 
 -- the parts are what the reader hands out: the first 4N of what `values` gives for the bytes of the values, and the bytes of the events,
@@ -53,22 +51,22 @@ pub record WrittenThenRead (x : Parts) (count room size : ℕ) : Type 0 where
 -- the parts of a sheet, written into any buffer that has room, give its bytes from the initial values on, and the rest of the buffer
 pub record ReadThenWritten (s : List ℕ) (at : Layout) (x : Parts) : Type 0 where
   pub bytes : bytes_of x ≡ drop at.from s
-  pub answer : (room : ℕ) → length (drop at.from s) ≤ room → writes x at.count room ≡ WrittenSheet (length (drop at.from s))
+  pub answer : (room : ℕ) → length (drop at.from s) ≤ room → writes x at.count room ≡ Ok (length (drop at.from s))
   pub buffer : (old : List ℕ) → length (drop at.from s) ≤ length old → leaves x at.count old ≡ over (drop at.from s) old
 
 -- THE CLAIMS
 abbrev pub Handing : Type 0
-Handing = (s : List ℕ) (at : Layout) → sheet_of s ≡ Read at → HandedOut s at (parts_of s at)
+Handing = (s : List ℕ) (at : Layout) → sheet_of s ≡ Ok at → HandedOut s at (parts_of s at)
 
 abbrev pub Writing : Type 0
 Writing =
-    (p n count : ℕ) (values events : List ℕ) (room size : ℕ) → AllBelow 65536 values → written_of p n count values events room ≡ WrittenSheet size
+    (p n count : ℕ) (values events : List ℕ) (room size : ℕ) → AllBelow 65536 values → written_of p n count values events room ≡ Ok size
     → WrittenThenRead (record { p = p; n = n; values = values; events = events }) count room size
 
 abbrev pub Reading : Type 0
-Reading = (s : List ℕ) (at : Layout) → AllBelow 256 s → sheet_of s ≡ Read at → ReadThenWritten s at (parts_of s at)
+Reading = (s : List ℕ) (at : Layout) → AllBelow 256 s → sheet_of s ≡ Ok at → ReadThenWritten s at (parts_of s at)
 
 abbrev pub Heading : Type 0
 Heading =
-    (h s : List ℕ) (at : Layout) → sheet_of s ≡ Read at → length (h ++ s) ≤ max_sheet
+    (h s : List ℕ) (at : Layout) → sheet_of s ≡ Ok at → length (h ++ s) ≤ max_sheet
     → ReadAs (h ++ s) (parts_of s at) at.count (length h + at.from)

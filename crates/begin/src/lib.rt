@@ -1,15 +1,17 @@
 // What a start leaves, on small values.
-#![tactic(auto)]
+#![tactic(auto, unfolding(crate::specs::Begun::filled_by))]
 
 ghost use Rattle.std.specs.Prelude.{◌≡◌};
-ghost use Rattle.begin.specs.Begun.{next_number, info_in, old_in, infos_in, filled_by, puts, begun_by};
+ghost use Rattle.begin.specs.Begun.{next_number, old_in, infos_in, filled_by, begun_by};
 
+use std::array;
 use table::{After, Ask, Call, Cell, Change, Link, List, Machine, Place, State, Task};
 
 // The links of a task to the four records of a list.
 pub type Links = [Link; Machine::LIST];
 
-// What a start leaves: the used count, the change of the next number, the task, and the records whose links are dropped.
+// What a start leaves: the used count, the change of the next number, the task, and the records whose links are dropped: the first
+// `drop` of the list, which is an SCX's as it came, or begins with an LLX's record.
 #[derive(Clone, Copy)]
 pub struct Begun {
     pub used: u8,
@@ -19,95 +21,67 @@ pub struct Begun {
     pub list: List,
 }
 
-// The number that an SCX takes, 0 where all are used.
+// The number that an SCX takes, 0 where all are used. No Option: each caller would only unwrap it to 0, the entry that is not looked at.
 pub fn next_number(used: u8) -> u8
     ensures { result ≡ next_number used }
 {
-    if (used as usize) < Machine::CHANGES {
-        used + 1
-    } else {
-        0
-    }
-}
-
-fn info_in(n: u8, i: u8, link: Link) -> u8
-    ensures { result ≡ info_in n i link }
-{
-    if i < n { link.info } else { 0 }
+    used.checked_add(1).unwrap_or(0)
 }
 
 fn old_in(links: Links, written: u8, field: u8) -> Cell
     ensures { result ≡ old_in links written field }
 {
-    let k = written as usize;
-    if k < Machine::LIST {
-        let link = links[k];
-        let cells = link.cells;
-        four::cell_at(cells, field)
-    } else {
-        Cell { value: 0, stamp: 0 }
-    }
+    let none = Cell::default();
+    links
+        .get(written as usize)
+        .map_or(none, |link| four::at(link.cells, field, none))
 }
 
 fn infos_in(n: u8, links: Links) -> List
     ensures { result ≡ infos_in n links }
 {
-    let l0 = links[0];
-    let l1 = links[1];
-    let l2 = links[2];
-    let l3 = links[3];
-    [
-        info_in(n, 0, l0),
-        info_in(n, 1, l1),
-        info_in(n, 2, l2),
-        info_in(n, 3, l3),
-    ]
+    array::from_fn(|i| if i < n as usize { links[i].info } else { 0 })
 }
 
 // The change that an SCX starts with, filled from its links.
 fn filled(n: u8, list: List, r: u8, written: u8, field: u8, new: u16, links: Links) -> Change
     ensures { result ≡ filled_by n list r written field new links }
 {
-    let set = lists::places(r);
-    let old = old_in(links, written, field);
-    let infos = infos_in(n, links);
     Change {
         n,
         v: list,
-        r: set,
+        r: lists::places(r),
         written,
         field,
         new,
-        old,
+        old: old_in(links, written, field),
         state: State::InProgress,
         frozen: false,
-        infos,
+        infos: infos_in(n, links),
     }
-}
-
-// A task put at a place with a list.
-fn put(x: Task, place: Place, list: List) -> Task
-    ensures { result ≡ puts x place list }
-{
-    let cells = x.cells;
-    Task { place, cells, list }
 }
 
 // What a call that passed its refusals starts with, of its task, the change of the next number and the links of its list.
 pub fn start(e: Call, used: u8, x: Task, ch: Change, links: Links) -> Begun
     ensures { result ≡ begun_by e.ask e.list used x ch links }
 {
-    let ask = e.ask;
-    let list = e.list;
-    let kept = x.list;
-    let none = [0; Machine::LIST];
+    let Call { ask, list, .. } = e;
+    let as_it_was = Begun {
+        used,
+        change: ch,
+        task: x,
+        drop: 0,
+        list: [0; Machine::LIST],
+    };
     match ask {
         Ask::Llx { r } => Begun {
-            used,
-            change: ch,
-            task: put(x, Place::L1 { r }, kept),
+            task: Task {
+                place: Place::L1 { r },
+                ..x
+            },
             drop: 1,
             list: [r, 0, 0, 0],
+            ..as_it_was
         },
         Ask::Scx {
             n,
@@ -117,7 +91,6 @@ pub fn start(e: Call, used: u8, x: Task, ch: Change, links: Links) -> Begun
             new,
         } => {
             let u = next_number(used);
-            let change = filled(n, list, r, written, field, new, links);
             let place = Place::H1 {
                 u,
                 i: 0,
@@ -125,32 +98,27 @@ pub fn start(e: Call, used: u8, x: Task, ch: Change, links: Links) -> Begun
             };
             Begun {
                 used: u,
-                change,
-                task: put(x, place, kept),
+                change: filled(n, list, r, written, field, new, links),
+                task: Task { place, ..x },
                 drop: n,
                 list,
             }
         }
         Ask::Vlx { n } => Begun {
-            used,
-            change: ch,
-            task: put(x, Place::Vlx { n, i: 0 }, list),
-            drop: 0,
-            list: none,
+            task: Task {
+                place: Place::Vlx { n, i: 0 },
+                list,
+                ..x
+            },
+            ..as_it_was
         },
         Ask::Read { r, f } => Begun {
-            used,
-            change: ch,
-            task: put(x, Place::Read { r, f }, kept),
-            drop: 0,
-            list: none,
+            task: Task {
+                place: Place::Read { r, f },
+                ..x
+            },
+            ..as_it_was
         },
-        Ask::Step => Begun {
-            used,
-            change: ch,
-            task: x,
-            drop: 0,
-            list: none,
-        },
+        Ask::Step => as_it_was,
     }
 }

@@ -4,12 +4,14 @@ use Prim.Native.Nat.{ℕ, zero, suc, ◌+◌, ◌≤◌, ◌<◌}
 use mathlib.Core.Path.{◌≡◌, refl, sym, ap, ◌∙◌, subst}
 use mathlib.Core.Logic.{◌⊎◌, inl, inr, ◌↔◌, ◌≢◌, ⊎_elim}
 use mathlib.Core.Bool.{true, false}
+use mathlib.Core.List.{List}
 use lib.Dec.{ltb}
 use borrow.Author.Tests.{lt-ltb, le-ltb}
 use native.Mathlib.Omega.{arith}
 use native.Mathlib.Nat.{le_refl}
-use Rattle.rules.specs.Words.{Machine, Call, Change, Place, Idle, Answer, Seen, Move}
+use Rattle.rules.specs.Words.{Cell, Machine, Call, Change, Place, Idle, Answer, Seen, Move}
 use Rattle.rules.specs.Places.{change_of, resume, is_idle}
+use Rattle.rules.specs.Step.{place_of, answer_of}
 use Rattle.rules.specs.Next.{next}
 use Rattle.clauses.proofs.Updates.{same?, bool?, tf}
 use Rattle.clauses.proofs.Memory.{Shared, apply}
@@ -22,9 +24,10 @@ use Rattle.orders.proofs.Working.{moved}
 use Rattle.bounds.specs.Bounds.{step_of, own}
 use Rattle.bounds.proofs.Along.{resumes, does, steps, still}
 
--- a move to the words Z with n own steps to come: the last of them, which answers x, or one that leaves one fewer
-abbrev pub Down : (Shared → Place → ℕ → Type 0) → Answer → ℕ → Shared → Move → Type 0
-Down Q x n Z v = ((n ≡ 1) × (v.place ≡ Idle) × (v.answer ≡ x)) ⊎ ((d : ℕ) × (n ≡ suc d) × Q Z v.place d)
+-- a move to the words Z with n own steps to come: the last of them, whose answer is one of X, or one that leaves one fewer
+abbrev pub Down : (Shared → Place → ℕ → Type 0) → (Answer → Type 0) → ℕ → Shared → Move → Type 0
+Down Q X n Z v =
+    ((n ≡ 1) × (place_of v ≡ Idle) × ((cs : List Cell) → X (answer_of cs v))) ⊎ ((d : ℕ) × (n ≡ suc d) × Q Z (place_of v) d)
 
 module _ (m : Machine) (calls : ℕ → Call) (R : Run m calls) (s t : ℕ) (tl : t < m.p) where
   abbrev C : Course
@@ -63,12 +66,12 @@ module _ (m : Machine) (calls : ℕ → Call) (R : Run m calls) (s t : ℕ) (tl 
   sooner k h g = record { later = h; busy = λ j a b. g.busy j a (omega arith) }
 
   -- Q holds of the words, the place and the number to come: N at the start, and as far as call K
-  module _ (Q : Shared → Place → ℕ → Type 0) (x : Answer) (K N : ℕ) (first : Q (S C (suc s)) (at (suc s)) N)
+  module _ (Q : Shared → Place → ℕ → Type 0) (X : Answer → Type 0) (K N : ℕ) (first : Q (S C (suc s)) (at (suc s)) N)
       (falls : (k n : ℕ) → Mine k → Q (S C k) (at k) n → (s : Seen) (ch : Change) (linked : ℕ) → terms_of ch ≡ (S C k).terms (change_of (at k))
-      → Saw (S C k) s (at k) → Down Q x n (apply (act_at (S C k) (at k)) (S C k)) (resume (at k) s ch linked))
+      → Saw (S C k) s (at k) → Down Q X n (apply (act_at (S C k) (at k)) (S C k)) (resume (at k) s ch linked))
       (stays : (k n : ℕ) → Mine k → k < K → Q (S C k) (at k) n → step_of t (calls k) ≡ false → Q (S C (suc k)) (at k) n) where
     abbrev Last : ℕ → ℕ → Type 0
-    Last k n = (n ≡ 1) × (at (suc k) ≡ Idle) × (said next m calls k ≡ x)
+    Last k n = (n ≡ 1) × (at (suc k) ≡ Idle) × X (said next m calls k)
 
     abbrev Fewer : ℕ → ℕ → Type 0
     Fewer k n = (d : ℕ) × (n ≡ suc d) × Q (S C (suc k)) (at (suc k)) d
@@ -80,7 +83,8 @@ module _ (m : Machine) (calls : ℕ → Call) (R : Run m calls) (s t : ℕ) (tl 
     fall k n g q h =
         let P = steps m calls R t tl k (busy_at k g) h in
         rw ((moved m calls R k t P).0, (moved m calls R k t P).1, does m calls R t tl k P)
-        (resumes m calls R t tl k (λ v. Down Q x n (apply (act_at (S C k) (at k)) (S C k)) v) (falls k n g q))
+        (⊎_elim (λ z. inl (z.0, z.1, z.2 _)) inr
+        (resumes m calls R t tl k (λ v. Down Q X n (apply (act_at (S C k) (at k)) (S C k)) v) (falls k n g q)))
 
     on : (k : ℕ) → Mine k → k < K → at (suc k) ≢ Idle → ToCome k → ToCome (suc k)
     on k g h b (n, q, e) = either_way k
@@ -121,13 +125,13 @@ module _ (m : Machine) (calls : ℕ → Call) (R : Run m calls) (s t : ℕ) (tl 
           (λ n. let b : s < k = omega arith in let c : k ≤ K = omega arith in
           ⊎_elim (λ (g : Mine k). going k g (to_come k c g)) (λ z. inr (over k b z)) (tally k b c)) (same? k s)
 
-      last-answers : Mine K → at (suc K) ≡ Idle → ToCome K → said next m calls K ≡ x
+      last-answers : Mine K → at (suc K) ≡ Idle → ToCome K → X (said next m calls K)
       last-answers g i (n, q, e) = either_way K
           (λ y. ⊎_elim (λ (z : Last K n). z.2) (λ (z : Fewer K n). absurd (not-idle _ _ z.0 z.2 i)) (fall K n g q y))
           (λ y. absurd (busy_at K g (sym (still m calls R t tl K (busy_at K g) y) ∙ i)))
 
-      -- in progress exactly as long as fewer than N are made, and the last answers x
-      pub exactly : (s < K → Mine K ↔ mine K < N) × (Mine K → at (suc K) ≡ Idle → said next m calls K ≡ x)
+      -- in progress exactly as long as fewer than N are made, and the last answers one of X
+      pub exactly : (s < K → Mine K ↔ mine K < N) × (Mine K → at (suc K) ≡ Idle → X (said next m calls K))
       exactly = (
         (λ l. (
           at_most (λ n q. (busy _ _ n q).0),

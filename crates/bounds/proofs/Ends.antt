@@ -22,7 +22,7 @@ use Rattle.bounds.proofs.Along.{busy_is, begun, resumes, steps, still}
 
 accepted_is : (a : Answer) → is_accepted a ≡ true → a ≡ Accepted
 accepted_is Accepted h = refl
-accepted_is Snapshot h = absurd (false≢true h)
+accepted_is (Snapshot cells) h = absurd (false≢true h)
 accepted_is Finalized h = absurd (false≢true h)
 accepted_is Fail h = absurd (false≢true h)
 accepted_is Yes h = absurd (false≢true h)
@@ -82,10 +82,10 @@ module _ (m : Machine) (calls : ℕ → Call) (R : Run m calls) where
         let (q, a) = moved m calls R k t P in
         let v = resumes m calls R t tl k Plain (λ s ch linked e w. plain (at k) s ch linked (busy_is (at k) busy)) in
         ⊎_elim
-        (λ (i : at (suc k) ≡ Idle). inr (P, (λ e. tf (ap is_accepted (sym a ∙ e)) (not_off _ (sym (ap is_idle (sym q ∙ i)) ∙ v.ends))), i))
+        (λ (i : at (suc k) ≡ Idle). inr (P, (λ e. tf (ap is_accepted (sym a ∙ e)) (not_off _ (sym (ap is_idle (sym q ∙ i)) ∙ v.ends _))), i))
         (λ (b : is_idle (at (suc k)) ≡ false). inl (
           on (λ i. tf (ap is_idle i) b),
-          λ h. a ∙ accepted_is _ (not_on _ (sym (ap is_idle (sym q) ∙ b) ∙ v.ends)),
+          λ h. a ∙ accepted_is _ (not_on _ (sym (ap is_idle (sym q) ∙ b) ∙ v.ends _)),
         ))
         (idle_or (at (suc k)))
 

@@ -12,7 +12,9 @@ use Rattle.rules.specs.Words.{Cell, State, InProgress, Committed, Aborted, Chang
 use Rattle.rules.specs.Words.{Place, Idle, L1, L2, L3, L4, L5, L6, L7, L8, L9, L10, L11, H1, H2, H3, H4, H5, H6, H7, H8, Vlx, Read}
 use Rattle.table.specs.Table.{pick}
 use Rattle.rules.specs.Places.{change_of, resume}
-use Rattle.rules.specs.Resume.{on, done, snapshot, no_and_drop, after_l4, after_l5, after_l6, after_l7, after_l8, after_l10, after_l11, verdict}
+use Rattle.rules.specs.Step.{place_of}
+use Rattle.rules.specs.Words.{On, Done, Store, Unlink}
+use Rattle.rules.specs.Resume.{after_l4, after_l5, after_l6, after_l7, after_l8, after_l10, after_l11, verdict}
 use Rattle.rules.specs.Resume.{after_held, after_h1, after_h3, first_from, at_mark, after_vlx}
 use Rattle.keeps.proofs.Stores.{picked}
 use Rattle.clauses.proofs.Memory.{Terms, Shared, Table, apply, nop, hold, abort, freeze, close, commit}
@@ -24,7 +26,7 @@ use Rattle.bounds.proofs.Marks.{count, all, count_le, one_less, marks}
 use Rattle.bounds.proofs.Rank.{rest, ended, rank}
 
 -- after the help
-r_verdict : (S : Shared) (after : After) (b : Bool) → rank S (verdict b after).place ≤ rest after
+r_verdict : (S : Shared) (after : After) (b : Bool) → rank S (place_of (verdict b after)) ≤ rest after
 unfolding rank
 r_verdict S Own true = le_refl _
 r_verdict S Own false = le_refl _
@@ -56,9 +58,9 @@ module _ (S : Shared) (r : ℕ) (m1 : Bool) (a : ℕ) where
   unfolding rank
   after_l5_lem f h = picked (λ q. rank S q < 25 - f) (ltb f 3) (L5 r m1 a (f + 1)) (L6 r m1 a) (λ e. omega (arith, ltb-true f 3 e)) (λ e. omega arith)
 
-  after_l6_lem : (now : ℕ) → S.state a ≢ InProgress → rank S (after_l6 r m1 a now).place < 21
+  after_l6_lem : (now : ℕ) → S.state a ≢ InProgress → rank S (place_of (after_l6 r m1 a now)) < 21
   unfolding rank
-  after_l6_lem now n = picked (λ v. rank S v.place < 21) (eqb now a) snapshot (on (L7 r m1 a)) (λ e. omega arith)
+  after_l6_lem now n = picked (λ v. rank S (place_of v) < 21) (eqb now a) Store (On (L7 r m1 a)) (λ e. omega arith)
       (λ e. rw (final_ended (S.state a) n) (omega arith))
 
   after_l8_lem : (s : State) → s ≡ S.state a → (S.state a ≡ InProgress → (S.terms a).n ≤ 4) → rank S (after_l8 r m1 a s) < rank S (L8 r m1 a)
@@ -68,29 +70,29 @@ module _ (S : Shared) (r : ℕ) (m1 : Bool) (a : ℕ) where
   after_l8_lem Aborted e n4 = rw (← e) (omega arith)
 
 module _ (S : Shared) where
-  after_l7_lem : (r : ℕ) (m1 : Bool) (a : ℕ) (s : State) → s ≡ S.state a → rank S (after_l7 r m1 a s).place < rank S (L7 r m1 a)
+  after_l7_lem : (r : ℕ) (m1 : Bool) (a : ℕ) (s : State) → s ≡ S.state a → rank S (place_of (after_l7 r m1 a s)) < rank S (L7 r m1 a)
   unfolding rank
   after_l7_lem r m1 a InProgress e = rw (← e) (omega arith)
   after_l7_lem r false a Committed e = rw (← e) (omega arith)
   after_l7_lem r true a Committed e = rw (← e) (omega arith)
   after_l7_lem r m1 a Aborted e = rw (← e) (omega arith)
 
-  after_l10_lem : (r : ℕ) (s : State) → rank S (after_l10 r s).place < 17
+  after_l10_lem : (r : ℕ) (s : State) → rank S (place_of (after_l10 r s)) < 17
   unfolding rank
   after_l10_lem r InProgress = omega arith
   after_l10_lem r Committed = omega arith
   after_l10_lem r Aborted = omega arith
 
-  after_l11_lem : (c : ℕ) → (c ≢ 0 → (S.terms c).n ≤ 4) → rank S (after_l11 c).place < 16
+  after_l11_lem : (c : ℕ) → (c ≢ 0 → (S.terms c).n ≤ 4) → rank S (place_of (after_l11 c)) < 16
   unfolding rank
-  after_l11_lem c n4 = picked (λ v. rank S v.place < 16) (eqb c 0) (done Fail) (on (H1 c 0 AtL11)) (λ e. omega arith)
+  after_l11_lem c n4 = picked (λ v. rank S (place_of v) < 16) (eqb c 0) (Done Fail) (On (H1 c 0 AtL11)) (λ e. omega arith)
       (λ e. let few = n4 (eqb-false c 0 e) in omega (arith, count_le (S.terms c).closes 0 4))
 
-  after_vlx_lem : (n i now linked : ℕ) → i < n → rank S (after_vlx n i now linked).place < n - i
+  after_vlx_lem : (n i now linked : ℕ) → i < n → rank S (place_of (after_vlx n i now linked)) < n - i
   unfolding rank
-  after_vlx_lem n i now linked h = picked (λ v. rank S v.place < n - i) (eqb now linked)
-      (pick (ltb (i + 1) n) (on (Vlx n (i + 1))) (done Yes)) (no_and_drop n)
-      (λ e. picked (λ v. rank S v.place < n - i) (ltb (i + 1) n) (on (Vlx n (i + 1))) (done Yes)
+  after_vlx_lem n i now linked h = picked (λ v. rank S (place_of v) < n - i) (eqb now linked)
+      (pick (ltb (i + 1) n) (On (Vlx n (i + 1))) (Done Yes)) (Unlink n)
+      (λ e. picked (λ v. rank S (place_of v) < n - i) (ltb (i + 1) n) (On (Vlx n (i + 1))) (Done Yes)
       (λ q. omega (arith, ltb-true (i + 1) n q)) (λ q. omega arith))
       (λ e. omega arith)
 
@@ -114,7 +116,7 @@ module _ (S : Shared) (ch : Change) (u : ℕ) (after : After) (e : terms_of ch �
   after_h2_lem i h true = after_hold i h
   after_h2_lem i h false = omega arith
 
-  after_h3_lem : (b : Bool) → rank S (after_h3 u after b).place < 2 + rest after
+  after_h3_lem : (b : Bool) → rank S (place_of (after_h3 u after b)) < 2 + rest after
   unfolding rank
   after_h3_lem true = omega (arith, r_verdict S after true)
   after_h3_lem false = omega arith
@@ -140,7 +142,7 @@ module _ (X : Table) (G : Ghost) (F : Fine X G) (cs : List Cell) (s : Seen) (ch 
 
   pub lower : (q : Place) → terms_of ch ≡ S.terms (change_of q) → Saw S s q → (change_of q ≢ 0 → Live X (change_of q)) → At S G cs q
       → q ≢ Idle
-      → rank (apply (act_at S q) S) (resume q s ch linked).place < rank S q
+      → rank (apply (act_at S q) S) (place_of (resume q s ch linked)) < rank S q
   unfolding rank apply act_at
   lower Idle e w l h k = absurd (k refl)
   lower (L1 r) e w l h k = omega arith

@@ -8,6 +8,7 @@ use native.Mathlib.Nat.{le_refl}
 use Rattle.rules.specs.Words.{Machine, Call, Ask, AskLlx, AskScx, AskVlx, AskRead, Place, Idle, L1, H1, Vlx, Read, Own, Yes, Change, Seen}
 use Rattle.table.specs.Table.{task_at}
 use Rattle.rules.specs.Places.{change_of, resume}
+use Rattle.rules.specs.Step.{place_of}
 use Rattle.rules.specs.Next.{next}
 use Rattle.clauses.proofs.Memory.{Terms, Shared, apply}
 use Rattle.clauses.proofs.Steps.{terms_of, act_at, Saw}
@@ -41,7 +42,7 @@ module _ (m : Machine) (calls : ℕ → Call) (R : Run m calls) where
     at k = place next m calls k t
 
     lowers : (k : ℕ) → at k ≢ Idle → (s : Seen) (ch : Change) (linked : ℕ) → terms_of ch ≡ (S C k).terms (change_of (at k)) → Saw (S C k) s (at k)
-        → rank (apply (act_at (S C k) (at k)) (S C k)) (resume (at k) s ch linked).place < rank (S C k) (at k)
+        → rank (apply (act_at (S C k) (at k)) (S C k)) (place_of (resume (at k) s ch linked)) < rank (S C k) (at k)
     lowers k b s ch linked e w = lower (X C k) (history C k) (fine C k) (task_at (M k) t).cells s ch linked (at k) e w
         (works_live m calls R k t tl _ refl) (place_known m calls R k t tl) b
 
@@ -50,7 +51,7 @@ module _ (m : Machine) (calls : ℕ → Call) (R : Run m calls) where
         (not_taken C k (change_of (at k)) (works_live m calls R k t tl _ refl)))
 
     most : (s k : ℕ) → Going next m calls s t k → own next m calls s t k < rank (S C (suc s)) (at (suc s))
-    most s k g = at_most m calls R s t tl (λ Z q n. rank Z q ≤ n) Yes k _ (le_refl _)
+    most s k g = at_most m calls R s t tl (λ Z q n. rank Z q ≤ n) (λ x. x ≡ Yes) k _ (le_refl _)
         (λ k n g h s ch linked e w. let l = lowers k (g.busy k g.later (le_refl k)) s ch linked e w in inr (n - 1, omega arith, omega arith))
         (λ k n g l h y. omega (arith, stays k))
         (λ n h. resumes m calls R t tl k (λ v. 0 < n)

@@ -4,11 +4,12 @@ use Prim.Native.Nat.{ℕ, suc, ◌+◌, ◌-◌, ◌<◌}
 use mathlib.Core.Path.{◌≡◌, refl, sym, ap, ◌∙◌, subst}
 use mathlib.Core.Bool.{Bool, true, false, true≢false}
 use mathlib.Core.Logic.{inl, inr, ◌↔◌, ◌≢◌, ⊎_elim}
+use mathlib.Core.List.{List}
 use lib.Dec.{ltb}
 use borrow.Author.Tests.{ltb-true, ltb-false, eq-eqb}
 use native.Mathlib.Omega.{arith}
 use native.Mathlib.Nat.{le_refl}
-use Rattle.rules.specs.Words.{State, InProgress, Committed, Aborted, Change, Seen, Machine, Call, AskLlx, Record, Snapshot}
+use Rattle.rules.specs.Words.{Cell, Answer, State, InProgress, Committed, Aborted, Change, Seen, Machine, Call, AskLlx, Record, Snapshot}
 use Rattle.rules.specs.Words.{Place, Idle, L1, L2, L3, L4, L5, L6}
 use Rattle.table.specs.Table.{pick}
 use Rattle.rules.specs.Places.{resume, is_idle}
@@ -64,15 +65,19 @@ next_cell : (r a : ℕ) (m1 : Bool) (f n : ℕ) → f < 4 → n ≡ 4 - f → (b
 next_cell r a m1 f n h z true e = let l = ltb-true f 3 e in at_l5 m1 (f + 1) n (omega arith) (omega arith)
 next_cell r a m1 f n h z false e = let l = ltb-false f 3 e in let o : n ≡ 1 = omega arith in rw o (at_l6 m1)
 
+-- the answers that are a snapshot
+abbrev Tells : Answer → Type 0
+Tells x = (cells : List Cell) × (x ≡ Snapshot cells)
+
 one_step : (S : Shared) (r a : ℕ) (s : Seen) (ch : Change) (linked : ℕ) → Free S r a → (q : Place) (n : ℕ) → Reads r a q n → Saw S s q
-    → Down (Llx r a) Snapshot n (apply (act_at S q) S) (resume q s ch linked)
+    → Down (Llx r a) Tells n (apply (act_at S q) S) (resume q s ch linked)
 unfolding act_at apply
 one_step S r a s ch linked free q n at_l1 saw = inr (8, refl, (free, at_l2 s.bit))
 one_step S r a s ch linked free q n (at_l2 m1) saw = inr (7, refl, (free, rw (saw, free.1) (at_l3 m1)))
 one_step S r a s ch linked free q n (at_l3 m1) saw = inr (6, refl, (free, at_l4 m1 s.state (rw saw free.2)))
 one_step S r a s ch linked free q n (at_l4 m1 x d) saw = inr (5, refl, (free, to_l5 r a m1 x s.bit d (saw ∙ free.0)))
 one_step S r a s ch linked free q n (at_l5 m1 f j h z) saw = inr (4 - f, omega arith, (free, next_cell r a m1 f (4 - f) h refl (ltb f 3) refl))
-one_step S r a s ch linked free q n (at_l6 m1) saw = rw (eq-eqb _ _ (saw ∙ free.1)) (inl (refl, refl, refl))
+one_step S r a s ch linked free q n (at_l6 m1) saw = rw (eq-eqb _ _ (saw ∙ free.1)) (inl (refl, refl, λ cs. (cs, refl)))
 
 module _ (m : Machine) (calls : ℕ → Call) (R : Run m calls) (s t r K : ℕ) (B : Starts next m calls s t (AskLlx r))
     (U : UndisturbedLlx next m calls s t r K) where
@@ -135,6 +140,6 @@ module _ (m : Machine) (calls : ℕ → Call) (R : Run m calls) (s t r K : ℕ) 
       )
 
   pub llx_takes : (s < K → Going next m calls s t K ↔ own next m calls s t K < 9)
-      × (Going next m calls s t K → at (suc K) ≡ Idle → said next m calls K ≡ Snapshot)
-  llx_takes = exactly m calls R s t tl Q Snapshot K 9 first
+      × (Going next m calls s t K → at (suc K) ≡ Idle → Tells (said next m calls K))
+  llx_takes = exactly m calls R s t tl Q Tells K 9 first
       (λ k n g p s ch linked e w. one_step (S C k) r a s ch linked p.0 (at k) n p.1 w) stays (λ Z q n p. busy r a q n p.1)

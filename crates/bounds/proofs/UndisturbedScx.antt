@@ -85,7 +85,7 @@ module _ (S : Shared) (c : Terms) (u : ℕ) (s : Seen) (ch : Change) (linked : �
   to_mark Z = rw (← of-ch) (marks ch.r u Own (λ q n. Scx (terms_of ch) u Z q (n + 2))
       (λ i h f. at_h6 i (count (terms_of ch).closes i (4 - i) + 2) h f refl) at_h7)
 
-  one_step : (q : Place) (n : ℕ) → Scx c u S q n → Saw S s q → Down (Scx c u) Yes n (apply (act_at S q) S) (resume q s ch linked)
+  one_step : (q : Place) (n : ℕ) → Scx c u S q n → Saw S s q → Down (Scx c u) (λ x. x ≡ Yes) n (apply (act_at S q) S) (resume q s ch linked)
   unfolding act_at
   one_step q n (at_h1 i k h w z) saw =
       let stored : is_stored S u i ≡ true = rw of-u (eq-eqb _ _ (w i (le_refl i) h)) in
@@ -97,7 +97,7 @@ module _ (S : Shared) (c : Terms) (u : ℕ) (s : Seen) (ch : Change) (linked : �
       let fewer = one_less c.closes i h f in
       inr (count c.closes (suc i) (3 - i) + 2, omega arith, rw next (to_mark _ (suc i) (3 - i) (omega arith)))
   one_step q n at_h7 saw = inr (1, refl, at_h8)
-  one_step q n at_h8 saw = inl (refl, refl, refl)
+  one_step q n at_h8 saw = inl (refl, refl, λ cs. refl)
 
 module _ (m : Machine) (calls : ℕ → Call) (R : Run m calls) (c : Asked next m calls) (K : ℕ) (U : UndisturbedScx next m calls c K) where
   abbrev C : Course
@@ -163,7 +163,7 @@ module _ (m : Machine) (calls : ℕ → Call) (R : Run m calls) (c : Asked next 
       × (Going next m calls s t K → at (suc K) ≡ Idle → said next m calls K ≡ Yes)
   scx_takes = subst (λ f. (s < K → Going next m calls s t K ↔ own next m calls s t K < c.n + f + 3)
       × (Going next m calls s t K → at (suc K) ≡ Idle → said next m calls K ≡ Yes)) (all_bits c.closing)
-      (exactly m calls R s t tl (Scx T u) Yes K (c.n + all T + 3) first
+      (exactly m calls R s t tl (Scx T u) (λ x. x ≡ Yes) K (c.n + all T + 3) first
       (λ k n g p s ch linked e w. let (a, b) = terms_are k g in
       one_step (S C k) T u s ch linked a (e ∙ ap (S C k).terms b ∙ a) made.apart (at k) n p w)
       (λ k n g l p h. same_infos T u (S C k) (S C (suc k)) (λ i b. left_in m calls R t tl k (g.busy k g.later (le_refl k)) (λ x. x.info)

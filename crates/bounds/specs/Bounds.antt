@@ -3,8 +3,8 @@
 -- above the fields that render it, over the runs of demand 3. An operation in progress has made fewer own steps than its bound: it ends
 -- with the last of them at the latest.
 -- The theorem is `every_bound` in proofs/Every.antt: Bounds next (the fresh table) calls, for all calls.
-use Rattle.std.specs.Prelude.{ℕ, zero, suc, ◌+◌, ◌*◌, ◌/◌, ◌%◌, ◌<◌, ◌≡◌, ◌⊎◌, ◌↔◌, ◌≢◌, Bool, true, false, ◌&&◌, eqb, ltb}
-use Rattle.rules.specs.Words.{Idle, Machine, Ask, AskLlx, AskScx, AskVlx, AskRead, AskStep, Call, Accepted, Snapshot, Yes, Out}
+use Rattle.std.specs.Prelude.{ℕ, zero, suc, ◌+◌, ◌*◌, ◌/◌, ◌%◌, ◌<◌, ◌≡◌, ◌⊎◌, ◌↔◌, ◌≢◌, Bool, true, false, ◌&&◌, List, eqb, ltb}
+use Rattle.rules.specs.Words.{Cell, Idle, Machine, Ask, AskLlx, AskScx, AskVlx, AskRead, AskStep, Call, Accepted, Snapshot, Yes, Out}
 use Rattle.table.specs.Table.{pick}
 use Rattle.orders.specs.Demand.{said, place, Steps, Starts, Going, Change, named, Closes, Effect, Verdict, Holds, LinkedRead}
 
@@ -67,4 +67,4 @@ module _ (next : Machine → Call → Out) (m : Machine) (calls : ℕ → Call) 
     -- "an undisturbed LLX on an open record nobody holds takes 9", and answers the snapshot
     pub undisturbed_llx : (s t r k : ℕ) → Starts next m calls s t (AskLlx r) → s < k → UndisturbedLlx s t r k → Going next m calls s t k ↔ own s t k < 9
     pub answers_snapshot : (s t r k : ℕ) → Starts next m calls s t (AskLlx r) → UndisturbedLlx s t r k → Going next m calls s t k
-        → place next m calls (suc k) t ≡ Idle → said next m calls k ≡ Snapshot
+        → place next m calls (suc k) t ≡ Idle → (cells : List Cell) × (said next m calls k ≡ Snapshot cells)

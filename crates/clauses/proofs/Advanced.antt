@@ -5,9 +5,9 @@ use mathlib.Core.Bool.{true, false, true≢false}
 use mathlib.Core.Logic.{◌⊎◌, inl, ◌≢◌}
 use mathlib.Core.List.{List}
 use native.Mathlib.Omega.{arith}
-use lib.ListN.{set}
 use Rattle.rules.specs.Words.{Cell, Link, Place, Move}
 use Rattle.rules.specs.Places.{change_of}
+use Rattle.rules.specs.Step.{place_of, cells_by, stores_link}
 use Rattle.clauses.proofs.Memory.{Table, apply, Act, nop}
 use Rattle.clauses.proofs.History.{Ghost, Reading, note}
 use Rattle.clauses.proofs.Clauses.{Guard, At, LinkOk, Live, Room, Fine}
@@ -36,14 +36,14 @@ none_below l = absurd (omega arith)
 module _ (X : Table) (G : Ghost) (F : Fine X G) (t r : ℕ) (cs : List Cell) (c : Cell) (new : Link) where
   -- Advanced, of a move v
   abbrev pub Leads : Act → Move → Type 0
-  Leads b v = Advanced X G t b (record { ends = v.store; at = r }) (set cs v.field c) v.place new
+  Leads b v = Advanced X G t b (record { ends = stores_link v; at = r }) (cells_by cs c v) (place_of v) new
 
-  pub acts : (b : Act) (q : Place) (f : ℕ) → Guard X.sh G t b → Room X b → Names X q
-      → At (apply b X.sh) (note t b (record { ends = false; at = r }) X.sh G) (set cs f c) q
-      → Advanced X G t b (record { ends = false; at = r }) (set cs f c) q new
-  acts b q f g m l h = record { guard = g; room = m; place = h; carried = λ z. inl (l z); stored = λ e. absurd (true≢false (sym e)) }
+  pub acts : (b : Act) (q : Place) (ds : List Cell) → Guard X.sh G t b → Room X b → Names X q
+      → At (apply b X.sh) (note t b (record { ends = false; at = r }) X.sh G) ds q
+      → Advanced X G t b (record { ends = false; at = r }) ds q new
+  acts b q ds g m l h = record { guard = g; room = m; place = h; carried = λ z. inl (l z); stored = λ e. absurd (true≢false (sym e)) }
 
-  pub reads : (q : Place) (f : ℕ) → Names X q → At X.sh G (set cs f c) q
-      → Advanced X G t nop (record { ends = false; at = r }) (set cs f c) q new
-  reads q f l h = acts nop q f tt tt l
-      (stay X.sh G t (record { ends = false; at = r }) nop tt (set cs f c) q tt (λ z. F.changes_law _ (l z)) h)
+  pub reads : (q : Place) (ds : List Cell) → Names X q → At X.sh G ds q
+      → Advanced X G t nop (record { ends = false; at = r }) ds q new
+  reads q ds l h = acts nop q ds tt tt l
+      (stay X.sh G t (record { ends = false; at = r }) nop tt ds q tt (λ z. F.changes_law _ (l z)) h)

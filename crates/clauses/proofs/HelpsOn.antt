@@ -11,7 +11,8 @@ use borrow.Author.Tests.{eqb-true, eqb-false, ltb-true, ltb-false}
 use Rattle.rules.specs.Words.{Cell, InProgress, Committed, Link, After, Own, AtL8, AtL11, H1, H2, H3, H4, H5, H6, H7, H8}
 use Rattle.table.specs.Table.{pick}
 use Rattle.rules.specs.Places.{change_of}
-use Rattle.rules.specs.Resume.{on, verdict, after_held, after_h1, after_h2, after_h3, first_from, at_mark}
+use Rattle.rules.specs.Words.{On}
+use Rattle.rules.specs.Resume.{verdict, after_held, after_h1, after_h2, after_h3, first_from, at_mark}
 use Rattle.clauses.proofs.Updates.{upd, upd_hit, same?, bool?, tf, leb_case}
 use Rattle.clauses.proofs.Memory.{Shared, Table, spot, apply, Act, nop, hold, abort, freeze, close, write, commit}
 use Rattle.clauses.proofs.History.{Ghost, Reading, note}
@@ -97,7 +98,7 @@ module _ (X : Table) (G : Ghost) (F : Fine X G) (t r : ℕ) (cs : List Cell) (c 
 
   module _ (u : ℕ) (w : After) (l : u ≢ 0 → Live X u) where
     pub from_H1 : (i n : ℕ) → n ≡ (S.terms u).n → (b : Bool) → is_stored S u i ≡ b → At S G cs (H1 u i w)
-        → Leads X G F t r cs c new (pick b (hold u i) nop) (on (after_h1 u i n w b))
+        → Leads X G F t r cs c new (pick b (hold u i) nop) (On (after_h1 u i n w b))
     from_H1 i n few true e h = acts X G F t r cs c new (hold u i) _ _
         (record { nonzero = h.0; ok = F.changes_law u (l h.0); inside = h.1; prior = h.2; at = eqb-true _ _ e }) (l h.0)
         (λ z. subst (λ y. Live X y) (sym (held_names u i n w)) (l h.0))
@@ -110,7 +111,7 @@ module _ (X : Table) (G : Ghost) (F : Fine X G) (t r : ℕ) (cs : List Cell) (c 
 
     -- H2: not u's own, so u lost the record, or it held it and is over
     pub from_H2 : (i n : ℕ) → n ≡ (S.terms u).n → (now : ℕ) → now ≡ S.info ((S.terms u).rec i) → At S G cs (H2 u i w)
-        → Leads X G F t r cs c new nop (on (after_h2 u i n w now))
+        → Leads X G F t r cs c new nop (On (after_h2 u i n w now))
     from_H2 i n few now e h = go (eqb now u) refl
       where
         O : OkOf S G u
@@ -125,7 +126,7 @@ module _ (X : Table) (G : Ghost) (F : Fine X G) (t r : ℕ) (cs : List Cell) (c 
             (⊎_elim (λ d. inl d) (λ a. inr (O.aborted_law a))) (st? (S.state u)))
             (λ f. inr (i, h.1, h.2, f, h.3)) (bool? (G.held u i))
 
-        go : (b : Bool) → eqb now u ≡ b → Leads X G F t r cs c new nop (on (pick b (after_held u i n w) (H3 u w)))
+        go : (b : Bool) → eqb now u ≡ b → Leads X G F t r cs c new nop (On (pick b (after_held u i n w) (H3 u w)))
         go true q = reads X G F t r cs c new _ _ (λ z. subst (λ y. Live X y) (sym (held_names u i n w)) (l h.0))
             (at_held S G _ u w i n few h.0 (held (eqb-true now u q)))
         go false q = reads X G F t r cs c new _ _ l (h.0, past (eqb-false now u q))
@@ -141,7 +142,7 @@ module _ (X : Table) (G : Ghost) (F : Fine X G) (t r : ℕ) (cs : List Cell) (c 
     from_H4 h = from_verdict (abort u) (record { ok = F.changes_law u (l h.0); lost = h.1 }) tt false w
 
     -- H7: a cell that is not the old one has been written already
-    pub from_H7 : (b : Bool) → is_old S u ≡ b → At S G cs (H7 u w) → Leads X G F t r cs c new (pick b (write u) nop) (on (H8 u w))
+    pub from_H7 : (b : Bool) → is_old S u ≡ b → At S G cs (H7 u w) → Leads X G F t r cs c new (pick b (write u) nop) (On (H8 u w))
     from_H7 true e h = acts X G F t r cs c new (write u) _ _
         (record { ok = F.changes_law u (l h.0); frozen = h.1; marked = h.2; is_old = same_eq _ _ e }) (l h.0) l (h.0, write_hap S G t k u)
     from_H7 false e h = reads X G F t r cs c new _ _ l
@@ -163,7 +164,7 @@ module _ (X : Table) (G : Ghost) (F : Fine X G) (t r : ℕ) (cs : List Cell) (c 
       marks : (i : ℕ) → u ≢ 0 → change_of (at_mark u (first_from rs i) w) ≢ 0 → Live X (change_of (at_mark u (first_from rs i) w))
       marks i z n = subst (λ y. Live X y) (sym (mark_names u (first_from rs i) w)) (l z)
 
-      pub from-H5 : At S G cs (H5 u w) → Leads X G F t r cs c new (freeze u) (on (at_mark u (first_from rs 0) w))
+      pub from-H5 : At S G cs (H5 u w) → Leads X G F t r cs c new (freeze u) (On (at_mark u (first_from rs 0) w))
       unfolding apply
       from-H5 h = acts X G F t r cs c new (freeze u) _ _ (record { ok = O; all = h.1 }) tt (marks 0 h.0)
           (at_mark_lem (apply (freeze u) S) (note t (freeze u) k S G) _ u w rs 0 same inside O.shape_law.0 h.0 (freeze_frozen S G t k u)
@@ -172,7 +173,7 @@ module _ (X : Table) (G : Ghost) (F : Fine X G) (t r : ℕ) (cs : List Cell) (c 
           O : OkOf S G u
           O = F.changes_law u (l h.0)
 
-      pub from-H6 : (i : ℕ) → At S G cs (H6 u i w) → Leads X G F t r cs c new (close u i) (on (at_mark u (first_from rs (i + 1)) w))
+      pub from-H6 : (i : ℕ) → At S G cs (H6 u i w) → Leads X G F t r cs c new (close u i) (On (at_mark u (first_from rs (i + 1)) w))
       unfolding apply
       from-H6 i h = acts X G F t r cs c new (close u i) _ _ (record { ok = O; frozen = h.1; inside = h.2; closes = h.3 }) tt (marks (i + 1) h.0)
           (at_mark_lem (apply (close u i) S) (note t (close u i) k S G) _ u w rs (i + 1) same inside O.shape_law.0 h.0 h.1 to)

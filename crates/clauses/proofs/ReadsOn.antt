@@ -13,7 +13,7 @@ use borrow.Author.Tests.{eqb-true, eqb-false, ltb-true, ltb-false}
 use Rattle.rules.specs.Words.{Cell, State, InProgress, Committed, Aborted, Link, After, AtL8, AtL11, Fail, Yes}
 use Rattle.rules.specs.Words.{L4, L5, L6, L7, L10, H1, Vlx}
 use Rattle.table.specs.Table.{pick, no_cell, cell_at}
-use Rattle.rules.specs.Resume.{on, on_with, done, snapshot, no_and_drop}
+use Rattle.rules.specs.Words.{On, Keep, Done, Store, Unlink}
 use Rattle.rules.specs.Resume.{after_l4, after_l5, after_l6, after_l7, after_l8, after_l10, after_l11, after_vlx}
 use Rattle.clauses.proofs.Updates.{same?, tf}
 use Rattle.clauses.proofs.Memory.{Shared, Table, apply, nop}
@@ -32,7 +32,7 @@ module _ (X : Table) (G : Ghost) (F : Fine X G) (t r : ℕ) (cs : List Cell) (c 
 
   -- L4: a record that a Committed change closes is marked, so one without a mark is not closed by a
   pub from_L4 : (m1 : Bool) (a : ℕ) (s : State) (m2 : Bool) → m2 ≡ S.mark r → (a ≢ 0 → Live X a) → At S G cs (L4 r m1 a s)
-      → Leads X G F t r cs c new nop (on (after_l4 r m1 a s m2))
+      → Leads X G F t r cs c new nop (On (after_l4 r m1 a s m2))
   from_L4 m1 a InProgress m2 e l h = reads X G F t r cs c new _ _ l tt
   from_L4 m1 a Committed false e l h =
       let z = h (λ q. ci refl q) in
@@ -48,7 +48,7 @@ module _ (X : Table) (G : Ghost) (F : Fine X G) (t r : ℕ) (cs : List Cell) (c 
       reads X G F t r cs c new _ _ l (omega arith, (λ q. ai z q, λ c. ca c z), λ i f. none_below)
 
   pub from_L5 : (m1 : Bool) (a f : ℕ) → length cs ≡ 4 → c ≡ S.cell r f → (a ≢ 0 → Live X a) → At S G cs (L5 r m1 a f)
-      → Leads X G F t r cs c new nop (on_with (after_l5 r m1 a f) f)
+      → Leads X G F t r cs c new nop (Keep (after_l5 r m1 a f) f)
   from_L5 m1 a f four e l h = go (ltb f 3) refl
     where
       more : (k : ℕ) → k ≡ suc f → Snap S r a k (set cs f c)
@@ -56,7 +56,7 @@ module _ (X : Table) (G : Ghost) (F : Fine X G) (t r : ℕ) (cs : List Cell) (c 
           (λ (x : g ≡ f). rw x (sym e ∙ sym (get_or-set_same cs f c no_cell (omega (arith, h.0)))))
           (λ n. h.2 i g (omega arith) ∙ sym (get_or-set_other cs f g c no_cell n)) (same? g f)
 
-      go : (b : Bool) → ltb f 3 ≡ b → Leads X G F t r cs c new nop (on_with (pick b (L5 r m1 a (f + 1)) (L6 r m1 a)) f)
+      go : (b : Bool) → ltb f 3 ≡ b → Leads X G F t r cs c new nop (Keep (pick b (L5 r m1 a (f + 1)) (L6 r m1 a)) f)
       go true z = reads X G F t r cs c new _ _ l (omega (arith, ltb-true f 3 z), h.1, more (f + 1) (omega arith))
       go false z = reads X G F t r cs c new _ _ l (h.1, more 4 (omega (arith, h.0, ltb-false f 3 z)))
 
@@ -67,11 +67,11 @@ module _ (X : Table) (G : Ghost) (F : Fine X G) (t r : ℕ) (cs : List Cell) (c 
   from_L7 m1 a Aborted l = reads X G F t 0 cs c new _ _ l tt
 
   -- whoever begins to help a live change
-  begins : (w : After) (a k : ℕ) → a ≢ 0 → Live X a → Leads X G F t k cs c new nop (on (H1 a 0 w))
+  begins : (w : After) (a k : ℕ) → a ≢ 0 → Live X a → Leads X G F t k cs c new nop (On (H1 a 0 w))
   begins w a k z l = reads X G F t k cs c new _ _ (λ n. l) (z, omega (arith, (F.changes_law a l).shape_law.1), λ j. none_below)
 
   pub from_L8 : (m1 : Bool) (a : ℕ) (s : State) → s ≡ S.state a → (a ≢ 0 → Live X a)
-      → Leads X G F t 0 cs c new nop (on (after_l8 r m1 a s))
+      → Leads X G F t 0 cs c new nop (On (after_l8 r m1 a s))
   from_L8 m1 a InProgress e l = let z = not_zero a (λ q. ai q (sym e)) in begins (AtL8 r m1) a 0 z (l z)
   from_L8 m1 a Committed e l = reads X G F t 0 cs c new _ _ by_none tt
   from_L8 m1 a Aborted e l = reads X G F t 0 cs c new _ _ by_none tt
@@ -85,14 +85,14 @@ module _ (X : Table) (G : Ghost) (F : Fine X G) (t r : ℕ) (cs : List Cell) (c 
   pub from_L11 : (a : ℕ) → a ≡ S.info r → Leads X G F t r cs c new nop (after_l11 a)
   from_L11 a e = go (eqb a 0) refl
     where
-      go : (b : Bool) → eqb a 0 ≡ b → Leads X G F t r cs c new nop (pick b (done Fail) (on (H1 a 0 AtL11)))
+      go : (b : Bool) → eqb a 0 ≡ b → Leads X G F t r cs c new nop (pick b (Done Fail) (On (H1 a 0 AtL11)))
       go true z = reads X G F t r cs c new _ _ by_none tt
       go false z = begins AtL11 a r (eqb-false a 0 z) (eqb-false a 0 z, inl (r, sym e))
 
   pub from_Vlx : (n i now linked : ℕ) → Leads X G F t r cs c new nop (after_vlx n i now linked)
   from_Vlx n i now linked = go (eqb now linked) (ltb (i + 1) n) refl
     where
-      go : (a b : Bool) → ltb (i + 1) n ≡ b → Leads X G F t r cs c new nop (pick a (pick b (on (Vlx n (i + 1))) (done Yes)) (no_and_drop n))
+      go : (a b : Bool) → ltb (i + 1) n ≡ b → Leads X G F t r cs c new nop (pick a (pick b (On (Vlx n (i + 1))) (Done Yes)) (Unlink n))
       go true true e = reads X G F t r cs c new _ _ by_none (ltb-true (i + 1) n e)
       go true false e = reads X G F t r cs c new _ _ by_none tt
       go false b e = reads X G F t r cs c new _ _ by_none tt
@@ -107,7 +107,7 @@ module _ (X : Table) (G : Ghost) (F : Fine X G) (t r : ℕ) (cs : List Cell) (c 
       link : Link
       link = record { there = true; info = now; cells = cs }
 
-      go : (b : Bool) → eqb now a ≡ b → Leads X G F t r cs c link nop (pick b snapshot (on (L7 r m1 a)))
+      go : (b : Bool) → eqb now a ≡ b → Leads X G F t r cs c link nop (pick b Store (On (L7 r m1 a)))
       go false z = reads X G F t r cs c link _ _ l tt
       go true z =
           record { guard = tt; room = tt; place = tt; carried = by_none; stored = λ y there. rw (eqb-true now a z) (anchor, h.1, ended) }

@@ -1,61 +1,64 @@
--- The unused bytes added up: for each kind which they are, and that the sum is 0 exactly where each of them is.
+-- The bytes that an event's kind does not use: the list's past its end, and the sum that a VLX leaves.
 use Prim.Native.Nat.{ℕ, zero, suc, ◌+◌}
 use native.Mathlib.Omega.{arith}
 use mathlib.Core.Path.{◌≡◌, refl}
-use mathlib.Core.Bool.{Bool, true, false}
-use mathlib.Core.List.{List}
-use lib.Dec.{eqb}
-use borrow.Author.Tests.{eqb-true, eqb-false, eq-eqb, ne_eqb}
+use mathlib.Core.Bool.{Bool, true, false, ◌&&◌}
+use mathlib.Core.List.{List, [], ◌∷◌}
+use lib.ListN.{drop}
+use lib.Seq.{drop-nil}
+use lib.Dec.{eqb, ltb}
+use borrow.Author.Tests.{eq-eqb, ne_eqb, lt-ltb}
+use Rattle.std.specs.List.{list_all}
 use Rattle.table.specs.Table.{pick}
 use Rattle.rules.specs.Claim.{both, all_below}
-use Rattle.event.specs.Event.{byte, uses}
+use Rattle.event.specs.Event.{byte, list_of, uses, event_fine}
 use Rattle.event.specs.Twelve.{sum_below, unused_sum, past_list, scx_only}
+
+both_true : (b : Bool) → both b true ≡ b
+unfolding both
+both_true true = refl
+both_true false = refl
+
+four : (a b c d : Bool) → (a && (b && (c && (d && true)))) ≡ both (both (both a b) c) d
+unfolding both
+four true true true true = refl
+four true true true false = refl
+four true true false d = refl
+four true false c d = refl
+four false b c d = refl
+
+-- which of the list's four bytes are tested
+past_four : (n a b c d : ℕ)
+    → list_all (λ x. eqb x 0) (drop n (a ∷ b ∷ c ∷ d ∷ []))
+    ≡ both (both (both (pick (ltb 0 n) true (eqb a 0)) (pick (ltb 1 n) true (eqb b 0))) (pick (ltb 2 n) true (eqb c 0))) (pick (ltb 3 n) true (eqb d 0))
+unfolding both
+past_four zero a b c d = four (eqb a 0) (eqb b 0) (eqb c 0) (eqb d 0)
+past_four (suc zero) a b c d = four true (eqb b 0) (eqb c 0) (eqb d 0)
+past_four (suc (suc zero)) a b c d = four true true (eqb c 0) (eqb d 0)
+past_four (suc (suc (suc zero))) a b c d = four true true true (eqb d 0)
+past_four (suc (suc (suc (suc n)))) a b c d =
+    rw
+    (drop-nil n, lt-ltb 0 (suc (suc (suc (suc n)))) (omega arith), lt-ltb 1 (suc (suc (suc (suc n)))) (omega arith), lt-ltb 2 (suc (suc (suc (suc n)))) (omega arith), lt-ltb 3 (suc (suc (suc (suc n)))) (omega arith))
+    refl
+
+-- the two kinds that have a list: the bytes past its n are tested, and a VLX uses none after it
+module _ (e : List ℕ) where
+  abbrev ends : Bool
+  ends = list_all (λ x. eqb x 0) (drop (byte e 2) (list_of e))
+
+  pub scx_fine : byte e 0 ≡ 2 → ends ≡ event_fine e
+  unfolding event_fine uses both all_below
+  scx_fine a = rw a (simp both_true (past_four (byte e 2) (byte e 3) (byte e 4) (byte e 5) (byte e 6)))
+
+  pub vlx_fine : byte e 0 ≡ 3 → byte e 7 ≡ 0 → byte e 8 ≡ 0 → byte e 9 ≡ 0 → byte e 10 ≡ 0 → byte e 11 ≡ 0 → ends ≡ event_fine e
+  unfolding event_fine uses both all_below
+  vlx_fine a h i j k l = rw (a, h, i, j, k, l) (simp both_true (past_four (byte e 2) (byte e 3) (byte e 4) (byte e 5) (byte e 6)))
 
 -- the event is of another kind
 abbrev pub Not : ℕ → List ℕ → Type 0
 Not kind e = byte e 0 ≡ kind → ⊥
 
-module _ (e : List ℕ) where
-  pub llx_sum : byte e 0 ≡ 1 → unused_sum e ≡ past_list 1 e + scx_only e + (byte e 2 + byte e 9)
-  unfolding unused_sum sum_below uses
-  llx_sum a = simp (eq-eqb _ _ a) (omega arith)
-
-  pub scx_sum : Not 1 e → byte e 0 ≡ 2 → unused_sum e ≡ past_list (byte e 2) e
-  unfolding unused_sum sum_below uses
-  scx_sum a b = simp (ne_eqb _ _ a, eq-eqb _ _ b) (omega arith)
-
-  pub vlx_sum : Not 1 e → Not 2 e → byte e 0 ≡ 3 → unused_sum e ≡ past_list (byte e 2) e + scx_only e + byte e 9
-  unfolding unused_sum sum_below uses
-  vlx_sum a b c = simp (ne_eqb _ _ a, ne_eqb _ _ b, eq-eqb _ _ c) (omega arith)
-
-  pub read_sum : Not 1 e → Not 2 e → Not 3 e → byte e 0 ≡ 4 → unused_sum e ≡ past_list 1 e + scx_only e + byte e 2
-  unfolding unused_sum sum_below uses
-  read_sum a b c d = simp (ne_eqb _ _ a, ne_eqb _ _ b, ne_eqb _ _ c, eq-eqb _ _ d) (omega arith)
-
-  pub step_sum : Not 1 e → Not 2 e → Not 3 e → Not 4 e → unused_sum e ≡ past_list 0 e + scx_only e + (byte e 2 + byte e 9)
-  unfolding unused_sum sum_below uses
-  step_sum a b c d = simp (ne_eqb _ _ a, ne_eqb _ _ b, ne_eqb _ _ c, ne_eqb _ _ d) (omega arith)
-
--- a sum is 0 exactly where both are
-zero_both : (a b : ℕ) → eqb (a + b) 0 ≡ both (eqb a 0) (eqb b 0)
-unfolding both
-zero_both a b = go (eqb a 0) refl (eqb b 0) refl
-  where
-    go : (x : Bool) → eqb a 0 ≡ x → (y : Bool) → eqb b 0 ≡ y → eqb (a + b) 0 ≡ both x y
-    go true ex true ey = eq-eqb (a + b) 0 (omega (arith, eqb-true a 0 ex, eqb-true b 0 ey))
-    go true ex false ey = ne_eqb (a + b) 0 (λ z. eqb-false b 0 ey (omega arith))
-    go false ex true ey = ne_eqb (a + b) 0 (λ z. eqb-false a 0 ex (omega arith))
-    go false ex false ey = ne_eqb (a + b) 0 (λ z. eqb-false a 0 ex (omega arith))
-
-zero_pick : (t : Bool) (x : ℕ) → eqb (pick t 0 x) 0 ≡ pick t true (eqb x 0)
-zero_pick true x = refl
-zero_pick false x = refl
-
-zero_each : (n : ℕ) (t : ℕ → Bool) (f : ℕ → ℕ) → eqb (sum_below n (λ k. pick (t k) 0 (f k))) 0 ≡ all_below n (λ k. pick (t k) true (eqb (f k) 0))
-unfolding sum_below all_below
-zero_each zero t f = refl
-zero_each (suc n) t f = rw (zero_both (sum_below n (λ k. pick (t k) 0 (f k))) (pick (t n) 0 (f n)), zero_each n t f, zero_pick (t n) (f n)) refl
-
-pub all_unused : (e : List ℕ) → eqb (unused_sum e) 0 ≡ all_below 12 (λ k. pick (uses (byte e 0) (byte e 2) k) true (eqb (byte e k) 0))
-unfolding unused_sum
-all_unused e = zero_each 12 (uses (byte e 0) (byte e 2)) (byte e)
+-- a law that docs/CLAIMS.md names, so it stays: what a VLX leaves unused
+pub vlx_sum : (e : List ℕ) → Not 1 e → Not 2 e → byte e 0 ≡ 3 → unused_sum e ≡ past_list (byte e 2) e + scx_only e + byte e 9
+unfolding unused_sum sum_below uses
+vlx_sum e a b c = simp (ne_eqb _ _ a, ne_eqb _ _ b, eq-eqb _ _ c) (omega arith)

@@ -4,7 +4,7 @@ use native.Mathlib.Nat.{mod-eq_of_lt, le_trans}
 use mathlib.Core.Path.{◌≡◌, refl, sym, ap, ◌∙◌}
 use mathlib.Core.Bool.{Bool, true}
 use mathlib.Core.List.{List}
-use Rattle.rules.specs.Words.{Machine, Out, Access, Ask, AskLlx, AskScx, AskVlx, AskRead, AskStep, Call, Refusal, Check, Passed, Failed}
+use Rattle.rules.specs.Words.{Machine, Out, Access, Ask, AskLlx, AskScx, AskVlx, AskRead, AskStep, Call, Refusal, Check, Ok, Err}
 use Rattle.table.specs.Table.{change_at, task_at}
 use Rattle.rules.specs.Places.{access_of}
 use Rattle.rules.specs.Perform.{record_of}
@@ -79,16 +79,16 @@ unfolding passed_in
 turn_is m e h = go (refusal_in m e) refl
   where
     go : (k : Check) → refusal_in m e ≡ k → turn_in m e ≡ next m e
-    go Passed f =
+    go (Ok _) f =
         let S = in_shape_lem m h in
         let rs = rules m.p m.n m.used (idle_at m e.task) (linked_at m e) e.task e.ask e.list in
         let obeyed = passed rs (sym (refusal_is m e S) ∙ f) in
         let known = task_known _ _ _ _ _ _ e.ask e.list obeyed in
-        turn_by m e Passed f
+        turn_by m e (Ok tt) f
         ∙ ap (λ t. passed_in m t e.ask e.list) (mod-eq_of_lt (le_trans known (p≤8 m S)))
         ∙ passed_is m e.task e.ask e.list (linked_at m e) S obeyed
-        ∙ by_check m e Passed h f
-    go (Failed why) f =
-        turn_by m e (Failed why) f
+        ∙ by_check m e (Ok tt) h f
+    go (Err why) f =
+        turn_by m e (Err why) f
         ∙ put_kept m (e.task % 8) _ (access m (e.task % 8) e.ask) _ e.list why
-        ∙ by_check m e (Failed why) h f
+        ∙ by_check m e (Err why) h f

@@ -8,7 +8,7 @@ use mathlib.Core.List.{List}
 use lib.ListN.{get_or}
 use lib.Dec.{ltb}
 use borrow.Author.Tests.{ltb-true}
-use Rattle.rules.specs.Words.{Machine, Link, Ask, AskLlx, AskScx, AskVlx, AskRead, AskStep, Call, Check, Passed, Failed}
+use Rattle.rules.specs.Words.{Machine, Link, Ask, AskLlx, AskScx, AskVlx, AskRead, AskStep, Call, Check, Ok, Err}
 use Rattle.rules.specs.Words.{TaskBusy, ListLength, NoSuchRecord, RecordTwice, PlaceOrField, NoLink, NumbersUsed}
 use Rattle.table.specs.Table.{pick, task_at, link_at, no_link}
 use Rattle.rules.specs.Claim.{all_below, test}
@@ -55,9 +55,9 @@ module _ (m : Machine) (few : m.n ≤ 32) where
     on_list idle linked =
         pick idle
         (pick (test 0 (within 4 n))
-        (pick (test 0 (exist m.n n l)) (pick (test 0 (apart n l)) (later linked) (Failed RecordTwice)) (Failed NoSuchRecord))
-        (Failed ListLength))
-        (Failed TaskBusy)
+        (pick (test 0 (exist m.n n l)) (pick (test 0 (apart n l)) (later linked) (Err RecordTwice)) (Err NoSuchRecord))
+        (Err ListLength))
+        (Err TaskBusy)
 
     abbrev as_read : ℕ → Bool
     as_read t = all_below n (λ i. get_or (theres (links_of m.links t l)) i false)
@@ -82,10 +82,10 @@ module _ (m : Machine) (few : m.n ≤ 32) where
       pick_same (ltb t m.p) _ _ _
       (λ h. list_same n l
       (λ linked. pick (test 0 (inside n r written field))
-      (pick linked (pick (ltb m.used 255) Passed (Failed NumbersUsed)) (Failed NoLink))
-      (Failed PlaceOrField)) (t % 8) t (unclipped t small h))
+      (pick linked (pick (ltb m.used 255) (Ok tt) (Err NumbersUsed)) (Err NoLink))
+      (Err PlaceOrField)) (t % 8) t (unclipped t small h))
   refusal_same small t (AskVlx n) l =
-      pick_same (ltb t m.p) _ _ _ (λ h. list_same n l (λ linked. pick linked Passed (Failed NoLink)) (t % 8) t (unclipped t small h))
+      pick_same (ltb t m.p) _ _ _ (λ h. list_same n l (λ linked. pick linked (Ok tt) (Err NoLink)) (t % 8) t (unclipped t small h))
   refusal_same small t (AskRead r f) l = pick_same (ltb t m.p) _ _ _ (λ h. rw (unclipped t small h) refl)
   refusal_same small t AskStep l = pick_same (ltb t m.p) _ _ _ (λ h. rw (unclipped t small h) refl)
 

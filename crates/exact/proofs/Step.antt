@@ -7,10 +7,10 @@ use lib.ListN.{get_or, set}
 use lib.Seq.{set-get_or}
 use Rattle.rules.specs.Words.{Machine, Record, Change, AskStep, Access, Seen, Move, Out}
 use Rattle.rules.specs.Words.{Place, Idle, L1, L2, L3, L4, L5, L6, L7, L8, L9, L10, L11, H1, H2, H3, H4, H5, H6, H7, H8, Vlx, Read}
-use Rattle.table.specs.Table.{pick, no_cells, no_change, record_at, change_at, task_at, slot, link_at, remade}
+use Rattle.table.specs.Table.{no_change, record_at, change_at, task_at, slot, link_at, remade}
 use Rattle.rules.specs.Places.{change_of, access_of, resume}
 use Rattle.rules.specs.Perform.{record_of, change_in, seen_by, record_by, change_by, seen, perform}
-use Rattle.rules.specs.Step.{task_by, link_by, drop_first, settle, access_at, move_at, step}
+use Rattle.rules.specs.Step.{task_by, link_by, drop_of, answer_of, drop_first, settle, access_at, move_at, step}
 use Rattle.rules.specs.Shape.{InShape}
 use Rattle.act.specs.Act.{act_of}
 use Rattle.hand.specs.Hand.{clip, put_turn}
@@ -66,18 +66,17 @@ module _ (m : Machine) (t : ℕ) where
       let r = record_of a in
       let v = work s in
       record {
-        m = let links = drop_first (set m.links (slot t r) (link_by (link_at m t r) x s v)) t l v.drop in
+        m = let links = drop_first (set m.links (slot t r) (link_by (link_at m t r) x s v)) t l (drop_of v) in
             remade m m.used (set m.records r (record_by a (record_at m r))) changes (set m.tasks t (task_by x s v)) links;
-        answer = v.answer;
-        cells = pick v.store x.cells no_cells;
+        answer = answer_of x.cells v;
       }
 
   -- the same links are dropped by a list that agrees as far as they go
   same_list_lem : (changes : List Change) (s : Seen) (k l : List ℕ)
-      → ((i : ℕ) → i < (work s).drop → get_or k i 0 ≡ get_or l i 0)
+      → ((i : ℕ) → i < drop_of (work s) → get_or k i 0 ≡ get_or l i 0)
       → built changes s k ≡ built changes s l
   unfolding built
-  same_list_lem changes s k l h = rw (drop_same _ t k l (work s).drop h) refl
+  same_list_lem changes s k l h = rw (drop_same _ t k l (drop_of (work s)) h) refl
 
   by_turn : (c x : ℕ) (a : Access) (l : List ℕ) → c ≡ change_of (task_at m t).place → a ≡ access_at m t → x ≡ record_of a
       → put_passed m t c a x AskStep l
@@ -102,5 +101,5 @@ module _ (m : Machine) (t : ℕ) where
       ap (λ r. put_passed m t c a r AskStep l) (mod-eq_of_lt (record<32 m S t tl))
       ∙ by_turn c (record_of a) a l refl refl refl
       ∙ ap₂ (λ (changes : List Change) (s : Seen). built changes s (clip x.list)) (sym n.leaves) (sym n.sees)
-      ∙ same_list_lem _ (seen a m) (clip x.list) x.list (clip_same x.list (move_at m t).drop (list<32 m S t tl))
+      ∙ same_list_lem _ (seen a m) (clip x.list) x.list (clip_same x.list (drop_of (move_at m t)) (list<32 m S t tl))
       ∙ sym (by_rules a refl)

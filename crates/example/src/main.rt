@@ -3,7 +3,7 @@
 #![tactic(auto)]
 
 use std::io;
-use table::{Answer, Cells, Machine, Out};
+use table::{Answer, Machine, Out};
 use tally::{Tally, Told};
 
 const TASK: u8 = 0;
@@ -11,119 +11,85 @@ const TASK: u8 = 0;
 const RECORD: u8 = 0;
 
 // The machine after some events, how many they were, and the tally of their answers.
-#[derive(Clone, Copy)]
+#[derive(Drop)]
 struct Run {
     m: Machine,
     events: u16,
     tally: Tally,
 }
 
-fn write_number(rt: &impl Print, k: u16) -> io::Result<()> {
-    print!(rt; " {k}")
-}
+impl Run {
+    // One more event, of which out is what the call gave. Its number wraps at 65,536, which no run reaches.
+    fn event(&mut self, rt: &impl Print, out: Out) -> io::Result<()> {
+        self.events = self.events.wrapping_add(1);
+        write_event(rt, self.events, out.answer)?;
+        compare_link(rt, out.m, out.answer)?;
+        let operation = tally::operation_of(self.m.tasks[TASK as usize].place);
+        tally::count(
+            &mut self.tally,
+            Told {
+                operation,
+                answer: out.answer,
+            },
+        );
+        self.m = out.m;
+        Ok(())
+    }
 
-fn end_line(rt: &impl Print) -> io::Result<()> {
-    print!(rt; "\n")
-}
-
-fn write_cells(rt: &impl Print, cells: Cells) -> io::Result<()> {
-    write_number(rt, cells[0].value)?;
-    write_number(rt, cells[1].value)?;
-    write_number(rt, cells[2].value)?;
-    write_number(rt, cells[3].value)
-}
-
-// The values that an answer reports: four of a snapshot, one of a value read.
-fn write_values(rt: &impl Print, answer: Answer, cells: Cells) -> io::Result<()> {
-    match answer {
-        Answer::Snapshot => write_cells(rt, cells),
-        Answer::Value { cell } => write_number(rt, cell.value),
-        _ => Ok(()),
+    fn steps(&mut self, rt: &impl Print, count: u8) -> io::Result<()> {
+        for _ in 0..count {
+            let out = machine::step(self.m, TASK);
+            self.event(rt, out)?;
+        }
+        Ok(())
     }
 }
 
-fn write_event(rt: &impl Print, event: u16, answer: Answer, cells: Cells) -> io::Result<()> {
-    print!(rt; "{event}")?;
-    write_number(rt, TASK as u16)?;
-    write_number(rt, answers::number_of(answer) as u16)?;
-    write_values(rt, answer, cells)?;
-    end_line(rt)
+// Numbers, each after a space, and the end of the line. A slice has no Display, and a type for these calls would be no plainer.
+fn write_numbers(rt: &impl Print, numbers: &[u16]) -> io::Result<()> {
+    for x in numbers {
+        print!(rt; " {x}")?;
+    }
+    println!(rt;)
+}
+
+// The event's number, the task, the answer's number, and the values that it reports: four of a snapshot, one of a value read.
+fn write_event(rt: &impl Print, event: u16, answer: Answer) -> io::Result<()> {
+    print!(rt; "{event} {TASK} {}", answers::number_of(answer))?;
+    match answer {
+        Answer::Snapshot { cells } => write_numbers(rt, &cells.map(|c| c.value)),
+        Answer::Value { cell } => write_numbers(rt, &[cell.value]),
+        _ => write_numbers(rt, &[]),
+    }
 }
 
 // The cells of a snapshot are those that the task's link to the record keeps; a line says if they are not.
-fn compare_link(rt: &impl Print, m: Machine, answer: Answer, cells: Cells) -> io::Result<()> {
-    if let Answer::Snapshot = answer {
+fn compare_link(rt: &impl Print, m: Machine, answer: Answer) -> io::Result<()> {
+    if let Answer::Snapshot { cells } = answer {
         let link = m.links[TASK as usize * Machine::RECORDS + RECORD as usize];
-        let kept = link.cells;
-        if !table::same_cells(cells, kept) {
-            print!(rt; "link differs\n")?;
+        if !table::same_cells(cells, link.cells) {
+            println!(rt; "link differs")?;
         }
     }
     Ok(())
 }
 
-fn write_record(rt: &impl Print, m: Machine) -> io::Result<()> {
-    let rec = m.records[RECORD as usize];
-    let cells = rec.cells;
-    print!(rt; "R")?;
-    write_number(rt, RECORD as u16)?;
-    write_number(rt, rec.mark as u16)?;
-    write_cells(rt, cells)?;
-    end_line(rt)
-}
-
-fn write_tally(rt: &impl Print, tally: Tally) -> io::Result<()> {
-    print!(rt; "T")?;
-    write_number(rt, tally.made)?;
-    write_number(rt, tally.no)?;
-    write_number(rt, tally.fail)?;
-    end_line(rt)
-}
-
-// Wraps at 65,536, which no run reaches.
-fn one_more(count: u16) -> u16 {
-    std::num::wrapping_add_u16(count, 1)
-}
-
-// The run with one more event, of which out is what the call gave.
-fn after_event(rt: &impl Print, run: Run, out: Out) -> io::Result<Run> {
-    let m = out.m;
-    let answer = out.answer;
-    let cells = out.cells;
-    let events = one_more(run.events);
-    write_event(rt, events, answer, cells)?;
-    compare_link(rt, m, answer, cells)?;
-    let before = run.m;
-    let task = before.tasks[TASK as usize];
-    let place = task.place;
-    let operation = tally::operation_of(place);
-    let tally = tally::counted_by(run.tally, Told { operation, answer });
-    Ok(Run { m, events, tally })
-}
-
-fn steps(rt: &impl Print, run: Run, count: u8) -> io::Result<Run> {
-    let mut now = run;
-    for _ in 0..count {
-        now = after_event(rt, now, machine::step(now.m, TASK))?;
-    }
-    Ok(now)
-}
-
 fn main(rt: HostRuntime) -> io::Result<()> {
-    let fresh = Machine::fresh(1, 1, &[5, 0, 0, 0]);
-    let m = fresh.m;
-    let tally = tally::none();
     let mut run = Run {
-        m,
+        m: Machine::fresh(1, 1, &[5, 0, 0, 0]).m,
         events: 0,
-        tally,
+        tally: tally::none(),
     };
-    run = after_event(&rt, run, machine::llx(run.m, TASK, RECORD))?;
-    run = steps(&rt, run, 9)?;
+    let out = machine::llx(run.m, TASK, RECORD);
+    run.event(&rt, out)?;
+    run.steps(&rt, 9)?;
     // n 1, the list of record 0 alone, R empty, place 0, field 0, new value 7
-    let list = [RECORD, 0, 0, 0];
-    run = after_event(&rt, run, machine::scx(run.m, TASK, 1, list, 0, 0, 0, 7))?;
-    run = steps(&rt, run, 4)?;
-    write_record(&rt, run.m)?;
-    write_tally(&rt, run.tally)
+    let out = machine::scx(run.m, TASK, 1, [RECORD, 0, 0, 0], 0, 0, 0, 7);
+    run.event(&rt, out)?;
+    run.steps(&rt, 4)?;
+    let rec = run.m.records[RECORD as usize];
+    print!(rt; "R {RECORD} {}", u16::from(rec.mark))?;
+    write_numbers(&rt, &rec.cells.map(|c| c.value))?;
+    let Tally { made, no, fail } = run.tally;
+    println!(rt; "T {made} {no} {fail}")
 }

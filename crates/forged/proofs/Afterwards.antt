@@ -4,10 +4,10 @@ use Prim.Native.Nat.{ℕ, zero, suc, ◌/◌, ◌%◌, ◌^◌, ◌<◌}
 use native.Mathlib.Omega.{arith}
 use mathlib.Core.Path.{◌≡◌, refl, sym, ap, subst, ◌∙◌}
 use mathlib.Core.Bool.{true}
-use mathlib.Core.List.{◌∷◌, ◌++◌}
+use mathlib.Core.List.{List, ◌∷◌, ◌++◌}
 use lib.Dec.{eqb}
 use borrow.Author.Tests.{ltb-true, eqb-true}
-use Rattle.rules.specs.Words.{Own, Machine, Call, Out, AskScx, Snapshot}
+use Rattle.rules.specs.Words.{Cell, Own, Machine, Call, Out, AskScx, Snapshot}
 use Rattle.rules.specs.Claim.{all_below}
 use Rattle.orders.specs.Demand.{at_h8, said, Change, Closes, Verdict}
 use Rattle.bounds.specs.Bounds.{own, UndisturbedLlx, Bounds}
@@ -65,9 +65,9 @@ unfolding computed table left_open
 own_verdict = verdict own_change 14 A Own true refl (refl, refl) at_h8 (refl, refl)
 
 pub undisturbed_llx_later : UndisturbedLlx next table left_open 15 B 0 25 × (own next table left_open 15 B 24 ≡ 8)
-    × (said next table left_open 24 ≡ Snapshot)
+    × ((cells : List Cell) × (said next table left_open 24 ≡ Snapshot cells))
 unfolding computed table left_open own own_change
-undisturbed_llx_later = (undisturbed next own_change refl own_verdict, refl, refl)
+undisturbed_llx_later = (undisturbed next own_change refl own_verdict, refl, (_, refl))
 
 -- undisturbed_llx, no commit: B's LLX is in progress after 9 steps
 abbrev the_change : Change never_commits table left_open

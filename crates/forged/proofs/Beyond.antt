@@ -24,7 +24,7 @@ module _ (m : Machine) (calls : ℕ → Call) where
       record {
         is_a_turn = λ k. inl (OutOfShape, refl);
         is_a_change = λ k n r written field new e. inl (OutOfShape, refl);
-        is_a_read = λ k h. absurd (true≢false (ap is_refusal h));
+        is_a_read = λ k cells h. absurd (true≢false (ap is_refusal h));
         once = λ c j k e f. absurd (no_change c);
         alters_its_field = λ c k e. absurd (no_change c);
         untouched = λ c k e i l. absurd (no_change c);

@@ -7,7 +7,7 @@ use mathlib.Core.Bool.{Bool, true, false, not, true≢false}
 use mathlib.Core.List.{List}
 use lib.Dec.{eqb, ltb}
 use borrow.Author.Tests.{ltb-true, eqb-false, eq-eqb}
-use Rattle.rules.specs.Words.{After, Own, Place, H1, H7, Machine, Ask, Call, Accepted, Snapshot, Out}
+use Rattle.rules.specs.Words.{Cell, After, Own, Place, H1, H7, Machine, Ask, Call, Accepted, Snapshot, Out}
 use Rattle.table.specs.Table.{pick, cell_at, record_at, change_at, task_at, link_at, same_cell}
 use Rattle.rules.specs.Claim.{both, all_below}
 use Rattle.rules.proofs.Exact.{both_is, both_on, all_is}
@@ -81,19 +81,19 @@ module _ (next : Machine → Call → Out) (m : Machine) (calls : ℕ → Call) 
         busy = λ j l1 l2 i. true≢false (sym (throughout_is next m calls _ s (suc k) b j l1 (omega arith)) ∙ ap (λ q. not (is_idle q)) i);
       }
 
-  pub snap : (t r s e : ℕ) → calls s ≡ llx t r → said next m calls s ≡ Accepted → ltb s e ≡ true → busy t s e ≡ true
-      → going e t → said next m calls e ≡ Snapshot
-      → same_list (next (before next m calls e) (calls e)).cells (record_at (before next m calls e) r).cells ≡ true
+  pub snap : (t r s e : ℕ) {cs : List Cell} → calls s ≡ llx t r → said next m calls s ≡ Accepted → ltb s e ≡ true → busy t s e ≡ true
+      → going e t → said next m calls e ≡ Snapshot cs
+      → same_list cs (record_at (before next m calls e) r).cells ≡ true
       → Snap next m calls e t r
-  snap t r s e asks acc l b g x same =
-      let told = (next (before next m calls e) (calls e)).cells in
+  snap t r s e {cs} asks acc l b g x same =
       record {
         start = s;
         starts = starts asks acc;
         going = goes_on t s e l b;
         steps = steps e t g;
+        cells = cs;
         answer = x;
-        tells = λ f l. ap (λ cs. cell_at cs f) (same_list_lem told (record_at (before next m calls e) r).cells same);
+        tells = λ f l. ap (λ cs. cell_at cs f) (same_list_lem cs (record_at (before next m calls e) r).cells same);
       }
 
   abbrev pub begun : (start task n : ℕ) (list : List ℕ) (r written field new number : ℕ)
@@ -200,12 +200,12 @@ module _ {next : Machine → Call → Out} {m : Machine} {calls : ℕ → Call} 
       (eq-eqb (calls k).task t (ap (λ x. x.task) asks))) (is_busy t k j s.going)))))
       (λ h. ap not h) (bool? (all_below j (λ i. not (reads next m calls t r j i)))))
 
-  pub linked : (c : Change next m calls) (r s e : ℕ) → calls s ≡ llx c.task r → said next m calls s ≡ Accepted → ltb s e ≡ true
+  pub linked : (c : Change next m calls) (r s e : ℕ) {cs : List Cell} → calls s ≡ llx c.task r → said next m calls s ≡ Accepted → ltb s e ≡ true
       → busy next m calls c.task s e ≡ true → ltb e c.start ≡ true → going next m calls e c.task
-      → said next m calls e ≡ Snapshot
+      → said next m calls e ≡ Snapshot cs
       → silent next m calls (snaps next m calls c.task r) e c.start ≡ true
       → throughout next m calls (stays next m calls c.task r (before next m calls (suc e))) e (suc c.start) ≡ true
-      → same_list (next (before next m calls e) (calls e)).cells (record_at (before next m calls e) r).cells ≡ true
+      → same_list cs (record_at (before next m calls e) r).cells ≡ true
       → LinkedRead next m calls c r e
   linked c r s e asks acc f b l g x only stands tells =
       let y = before next m calls (suc e) in

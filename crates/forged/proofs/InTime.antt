@@ -8,7 +8,7 @@ use mathlib.Core.Bool.{Bool, true, not}
 use mathlib.Core.List.{List, ◌∷◌, ◌++◌}
 use lib.Dec.{eqb}
 use borrow.Author.Tests.{ne_eqb}
-use Rattle.rules.specs.Words.{Idle, Machine, Ask, AskLlx, AskScx, AskVlx, AskRead, Call, Snapshot, Yes}
+use Rattle.rules.specs.Words.{Cell, Idle, Machine, Ask, AskLlx, AskScx, AskVlx, AskRead, Call, Snapshot, Yes}
 use Rattle.rules.specs.Claim.{both}
 use Rattle.rules.proofs.Exact.{both_on}
 use Rattle.rules.specs.Next.{next, llx, vlx, read}
@@ -36,9 +36,9 @@ abbrev pub Ends : ℕ → ℕ → Ask → ℕ → ℕ → Type 0
 Ends s t ask k n = Starts next table between s t ask × Going next table between s t k × (own next table between s t k ≡ n)
     × (place next table between (suc k) t ≡ Idle)
 
-pub llx_speaks : Ends 0 A (AskLlx 0) 19 8 × (said next table between 19 ≡ Snapshot)
+pub llx_speaks : Ends 0 A (AskLlx 0) 19 8 × ((cells : List Cell) × (said next table between 19 ≡ Snapshot cells))
 unfolding computed table between own
-llx_speaks = ((starts next table between refl refl, goes_on next table between A 0 19 refl refl, refl, refl), refl)
+llx_speaks = ((starts next table between refl refl, goes_on next table between A 0 19 refl refl, refl, refl), (_, refl))
 
 pub scx_speaks : Ends 20 A (AskScx 1 1 0 0 7) 29 4 × (said next table between 29 ≡ Yes)
 unfolding computed table between own

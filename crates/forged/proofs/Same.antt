@@ -2,7 +2,7 @@
 use Prim.Native.Nat.{ℕ}
 use mathlib.Core.List.{List}
 use mathlib.Core.Path.{◌≡◌, refl}
-use Rattle.rules.specs.Words.{Machine, Call, Check, Passed, Failed}
+use Rattle.rules.specs.Words.{Machine, Call, Check, Ok, Err}
 use Rattle.rules.specs.Words.{Ask, AskLlx, AskScx, AskVlx, AskRead, AskStep}
 use Rattle.rules.specs.Step.{move_at, step}
 use Rattle.rules.specs.Refuse.{check, rules_of}
@@ -18,8 +18,8 @@ same_accepted m t (AskRead r f) l = refl
 same_accepted m t AskStep l = refl
 
 same_answered : (c : Check) (m : Machine) (e : Call) → answered_by (step_by no_patch) c m e ≡ answered c m e
-same_answered Passed m e = same_accepted m e.task e.ask e.list
-same_answered (Failed why) m e = refl
+same_answered (Ok _) m e = same_accepted m e.task e.ask e.list
+same_answered (Err why) m e = refl
 
 pub as_the_rules : next_by (step_by no_patch) ≡ next
 unfolding next_by next

@@ -1,15 +1,15 @@
 -- BROKEN MACHINES: mistakes and shams of document 01, and others that leave one thing out. Which of demand 3 and the own-step bounds each
 -- fails, and in which field, stands in proofs/; refuses_all meets demand 3 (proofs/Beyond.antt).
 use Rattle.std.specs.Prelude.{ℕ, zero, suc, ◌+◌, Bool, true, false, [], eqb, ltb, get_or, set}
-use Rattle.rules.specs.Words.{State, InProgress, Committed, Aborted, Cell, Place, L1, H4, H5, H6, H7, H8, Seen, Move}
+use Rattle.rules.specs.Words.{State, InProgress, Committed, Aborted, Cell, Place, L1, H4, H5, H6, H7, H8, Seen, Move, On}
 use Rattle.rules.specs.Words.{Access, Nothing, Hold, Write, Commit, Machine, Out, Call, Yes, OutOfShape, Snapshot, Idle}
 use Rattle.rules.specs.Words.{Ask, AskLlx, AskScx, AskVlx, AskRead, AskStep}
 use Rattle.rules.specs.Start.{at_place}
-use Rattle.table.specs.Table.{pick, no_cells, cell_at, record_at, change_at, task_at, link_at, remade}
+use Rattle.table.specs.Table.{pick, cell_at, record_at, change_at, task_at, link_at, remade}
 use Rattle.rules.specs.Places.{change_of, access_of}
 use Rattle.rules.specs.Perform.{record_of, saw_bit, saw_number}
-use Rattle.rules.specs.Resume.{on, verdict, first_from}
-use Rattle.rules.specs.Step.{access_at, step}
+use Rattle.rules.specs.Resume.{verdict, first_from}
+use Rattle.rules.specs.Step.{place_of, access_at, step}
 use Rattle.rules.specs.Refuse.{idle_at}
 use Rattle.rules.specs.Next.{refused, started, next}
 use Rattle.forged.specs.Patched.{as_it_is, step_by, next_by}
@@ -50,9 +50,9 @@ marks_late =
     (λ m q v.
     let u = change_of q in
     let first = first_from (change_at m u).r 0 in
-    let last = on (H8 u (after_of q)) in
-    pick (isH 5 q) (on (H7 u (after_of q)))
-    (pick (isH 7 q) (pick (ltb first 4) (on (H6 u first (after_of q))) last) (pick (isH 7 v.place) last v)))
+    let last = On (H8 u (after_of q)) in
+    pick (isH 5 q) (On (H7 u (after_of q)))
+    (pick (isH 7 q) (pick (ltb first 4) (On (H6 u first (after_of q))) last) (pick (isH 7 (place_of v)) last v)))
 
 -- THE SHAMS of document 01
 unfoldable pub refuses_all : Machine → Call → Out
@@ -60,11 +60,11 @@ refuses_all m e = refused m OutOfShape
 
 -- yes to every call, the table as it came
 unfoldable pub yes_to_all : Machine → Call → Out
-yes_to_all m e = record { m = m; answer = Yes; cells = no_cells }
+yes_to_all m e = record { m = m; answer = Yes }
 
 -- where all is held, not H5 but H4
 unfoldable pub always_aborts : Machine → Call → Out
-always_aborts = leading (λ m q v. pick (isH 5 v.place) (on (H4 (change_of q) (after_of q))) v)
+always_aborts = leading (λ m q v. pick (isH 5 (place_of v)) (On (H4 (change_of q) (after_of q))) v)
 
 -- H4 brings a yes
 unfoldable pub always_yes : Machine → Call → Out
@@ -97,7 +97,7 @@ hold_anyway = doing (λ m q a. pick (isH 1 q) (Hold (record_of a) (record_at m (
 
 -- H1 takes hold of the first place alone
 unfoldable pub hold_first : Machine → Call → Out
-hold_first = leading (λ m q v. pick (isH 1 v.place) (pick (isH 1 q) (on (H5 (change_of q) (after_of q))) v) v)
+hold_first = leading (λ m q v. pick (isH 1 (place_of v)) (pick (isH 1 q) (On (H5 (change_of q) (after_of q))) v) v)
 
 -- committed before the write: H7 commits, then writes
 abbrev pub is_open : State → Bool
@@ -115,7 +115,7 @@ commit_first =
     (record {
       access = λ m q a. pick (first_time m q) (Commit (change_of q)) a;
       sees = as_it_is;
-      move = λ m q v. pick (first_time m q) (on q) v;
+      move = λ m q v. pick (first_time m q) (On q) v;
     }))
 
 -- H7 writes one more than the new value
@@ -142,10 +142,10 @@ abbrev pub step_cached : Machine → ℕ → Out
 step_cached m t =
     let o = step m t in
     pick (pick (isL 6 (task_at o.m t).place) (link_at m t (record_of (access_at m t))).there false)
-    (record { m = at_place o.m t Idle (task_at o.m t).list; answer = Snapshot; cells = (task_at o.m t).cells }) o
+    (record { m = at_place o.m t Idle (task_at o.m t).list; answer = Snapshot (task_at o.m t).cells }) o
 
 abbrev pub keep_link : Ask → Machine → ℕ → Out → Out
-keep_link (AskLlx r) m t o = pick (link_at m t r).there (record { m = relink m o.m; answer = o.answer; cells = o.cells }) o
+keep_link (AskLlx r) m t o = pick (link_at m t r).there (record { m = relink m o.m; answer = o.answer }) o
 keep_link (AskScx n r written field new) m t o = o
 keep_link (AskVlx n) m t o = o
 keep_link (AskRead r f) m t o = o
@@ -156,7 +156,7 @@ cached m e = keep_link e.ask m e.task (next_by step_cached m e)
 
 -- an LLX that finds the info altered at L6 begins again
 unfoldable pub begins_again : Machine → Call → Out
-begins_again = leading (λ m q v. pick (isL 6 q) (pick (isL 7 v.place) (on (L1 (record_of (access_of q (change_at m 0) [])))) v) v)
+begins_again = leading (λ m q v. pick (isL 6 q) (pick (isL 7 (place_of v)) (On (L1 (record_of (access_of q (change_at m 0) [])))) v) v)
 
 -- H8 sets nothing: a change that took effect stays InProgress
 unfoldable pub never_commits : Machine → Call → Out
@@ -174,4 +174,4 @@ lets_go =
     (λ m t.
     let q = (task_at m t).place in
     let o = step m t in
-    pick (isH 8 q) (record { m = freed o.m (get_or (change_at m (change_of q)).v 0 0); answer = o.answer; cells = o.cells }) o)
+    pick (isH 8 q) (record { m = freed o.m (get_or (change_at m (change_of q)).v 0 0); answer = o.answer }) o)

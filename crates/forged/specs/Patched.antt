@@ -1,12 +1,12 @@
 -- A PATCHED MACHINE: starts and refusals are the rules' own, a STEP is patched in what it does, in what it sees, or in where it leads.
 -- With no patch it is `next` (`as_the_rules`, proofs/Same.antt). Most of the broken machines (Broken.antt) are patches.
 use Rattle.std.specs.Prelude.{ℕ, List}
-use Rattle.rules.specs.Words.{Place, Access, Seen, Move, Machine, Out, Call, Check, Passed, Failed}
+use Rattle.rules.specs.Words.{Place, Access, Seen, Move, Machine, Out, Call, Check, Ok, Err}
 use Rattle.rules.specs.Words.{Ask, AskLlx, AskScx, AskVlx, AskRead, AskStep}
-use Rattle.table.specs.Table.{pick, no_cells, change_at, task_at, link_at}
+use Rattle.table.specs.Table.{change_at, task_at, link_at}
 use Rattle.rules.specs.Places.{change_of, resume}
 use Rattle.rules.specs.Perform.{record_of, seen, perform}
-use Rattle.rules.specs.Step.{settle, access_at}
+use Rattle.rules.specs.Step.{answer_of, settle, access_at}
 use Rattle.rules.specs.Refuse.{check, rules_of}
 use Rattle.rules.specs.Next.{refused, started}
 
@@ -28,11 +28,7 @@ step_by x m t =
     let a = x.access m q (access_at m t) in
     let s = x.sees m q (seen a m) in
     let v = x.move m q (resume q s (change_at m (change_of q)) (link_at m t (record_of a)).info) in
-    record {
-      m = settle (perform a m) t (record_of a) s v;
-      answer = v.answer;
-      cells = pick v.store (task_at m t).cells no_cells;
-    }
+    record { m = settle (perform a m) t (record_of a) s v; answer = answer_of (task_at m t).cells v }
 
 -- the machine with another STEP
 abbrev pub accepted_by : (Machine → ℕ → Out) → Machine → ℕ → Ask → List ℕ → Out
@@ -43,8 +39,8 @@ accepted_by step m t (AskRead r f) l = started m t (AskRead r f) l
 accepted_by step m t AskStep l = step m t
 
 abbrev pub answered_by : (Machine → ℕ → Out) → Check → Machine → Call → Out
-answered_by step Passed m e = accepted_by step m e.task e.ask e.list
-answered_by step (Failed why) m e = refused m why
+answered_by step (Ok _) m e = accepted_by step m e.task e.ask e.list
+answered_by step (Err why) m e = refused m why
 
 unfoldable pub next_by : (Machine → ℕ → Out) → Machine → Call → Out
 next_by step m e = answered_by step (check (rules_of m e)) m e

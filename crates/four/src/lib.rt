@@ -1,45 +1,21 @@
-// Arrays of four, read and written at any index: past the end stands the logic's own default, and nothing is set.
+// Arrays read and written at any index: past the end stands what the caller gives, and nothing is set.
 #![tactic(auto)]
 
-ghost use Rattle.std.specs.Prelude.{◌≡◌, false, get_or, set};
-ghost use Rattle.table.specs.Table.{cell_at};
+ghost use Rattle.std.specs.Prelude.{◌≡◌, get_or, set};
 
-use table::{Cell, Cells, List, Machine};
-
-pub fn number_at(v: List, i: u8) -> u8
-    ensures { result ≡ get_or v i 0 }
+// The entry at place i, or `past` past the end.
+pub fn at<T: Copy, const N: usize>(v: [T; N], i: u8, past: T) -> T
+    ensures { result ≡ get_or v i past }
 {
-    let k = i as usize;
-    if k < Machine::LIST { v[k] } else { 0 }
+    v.get(i as usize).copied().unwrap_or(past)
 }
 
-pub fn bool_at(v: [bool; Machine::LIST], i: u8) -> bool
-    ensures { result ≡ get_or v i false }
+// The array with x at place i; past the end nothing is set.
+pub fn with<T: Copy, const N: usize>(mut v: [T; N], i: u8, x: T) -> [T; N]
+    ensures { result ≡ set v i x }
 {
-    let k = i as usize;
-    if k < Machine::LIST { v[k] } else { false }
-}
-
-pub fn cell_at(v: Cells, i: u8) -> Cell
-    ensures { result ≡ cell_at v i }
-{
-    let k = i as usize;
-    if k < Machine::FIELDS {
-        v[k]
-    } else {
-        Cell { value: 0, stamp: 0 }
+    if (i as usize) < N {
+        v[i as usize] = x;
     }
-}
-
-pub fn with_cell(v: Cells, i: u8, c: Cell) -> Cells
-    ensures { result ≡ set v i c }
-{
-    let k = i as usize;
-    if k < Machine::FIELDS {
-        let mut out = v;
-        out[k] = c;
-        out
-    } else {
-        v
-    }
+    v
 }

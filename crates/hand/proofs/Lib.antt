@@ -1,3 +1,2 @@
 -- The modules of proofs/ beside the proofs of the functions, each after those that it uses.
-pub mod Glue
 pub mod Stored

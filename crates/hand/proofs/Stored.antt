@@ -2,7 +2,7 @@
 use Prim.Native.Nat.{ℕ, ◌+◌, ◌%◌}
 use native.Mathlib.Numerals.{add-one}
 use mathlib.Core.Path.{◌≡◌, refl, ap}
-use mathlib.Core.List.{List, [], ◌∷◌}
+use mathlib.Core.List.{List}
 use lib.ListN.{get_or, set, get_or-map}
 use Rattle.rules.specs.Words.{Link, Machine, Access, Call, Out}
 use Rattle.table.specs.Table.{no_link, change_at, task_at, slot, remade}
@@ -35,9 +35,6 @@ pub lost_is : (m : Machine) (t : ℕ) (l : List ℕ) (j : ℕ) (left : List Link
 unfolding lost
 lost_is m t l j left e = ap (with_links m) e
 
-pub none_lost : (m : Machine) (t : ℕ) (l : List ℕ) → m ≡ lost m t l 0
-none_lost m t l = lost_is m t l 0 m.links (drop_none m.links t (clip l))
-
 pub one_more_lost : (m now : Machine) (t : ℕ) (l : List ℕ) (j r : ℕ) → now ≡ lost m t l j → r ≡ get_or l j 0
     → let at = slot t (r % 32) in
     with_links now (set now.links at (dropped (get_or now.links at no_link))) ≡ lost m t l (j + 1)
@@ -50,16 +47,6 @@ stored m t c r d =
     remade m d.used (set m.records r d.rec) (set m.changes c d.change) (set m.tasks t d.task)
     (set m.links (slot t r) d.link)
 
--- the links of a task to the four records of a list, found by their numbers
-pub near_is : (ls : List Link) (t : ℕ) (l : List ℕ) (q0 q1 q2 q3 : ℕ) → q0 ≡ get_or l 0 0 → q1 ≡ get_or l 1 0 → q2 ≡ get_or l 2 0 → q3 ≡ get_or l 3 0
-    → get_or ls (slot t (q0 % 32)) no_link
-    ∷ get_or ls (slot t (q1 % 32)) no_link
-    ∷ get_or ls (slot t (q2 % 32)) no_link
-    ∷ get_or ls (slot t (q3 % 32)) no_link
-    ∷ []
-    ≡ links_of ls t l
-near_is ls t l q0 q1 q2 q3 e0 e1 e2 e3 = rw (e0, e1, e2, e3) refl
-
 pub turned : (m : Machine) (e : Call) (c : ℕ) (a : Access) (r : ℕ) (near : List Link) (d : Turned) (after : Machine)
     → c ≡ number_of e.ask m.used (task_at m (e.task % 8)).place
     → a ≡ access_of (task_at m (e.task % 8)).place (change_at m c) (task_at m (e.task % 8)).list
@@ -67,6 +54,6 @@ pub turned : (m : Machine) (e : Call) (c : ℕ) (a : Access) (r : ℕ) (near : L
     → near ≡ links_of m.links (e.task % 8) e.list
     → d ≡ turn_of (hand_by m (e.task % 8) c a (r % 32) near) e
     → after ≡ lost (stored m (e.task % 8) c (r % 32) d) (e.task % 8) d.list d.drop
-    → ◌≡◌ {A = Out} (record { m = after; answer = d.answer; cells = d.cells }) (turn_in m e)
+    → ◌≡◌ {A = Out} (record { m = after; answer = d.answer }) (turn_in m e)
 unfolding turn_in put_turn lost
 turned m e c a r near d after ec ea er en ed el = rw (el, ed, en, er, ea, ec) refl

@@ -1,8 +1,8 @@
 -- A call on what it has in hand, and put in place in the table, every index clipped, so that none is out of range whatever the state. In
 -- a state in shape no index is altered by that, and the call is `next` of the rules (the crate exact).
 use Rattle.std.specs.Prelude.{ℕ, ◌%◌, List, [], ◌∷◌, map, get_or, set}
-use Rattle.rules.specs.Words.{Place, Link, Machine, Ask, AskLlx, AskScx, AskVlx, AskRead, AskStep, Call, Refusal, Accepted, Refused, Out, Access, Check, Passed, Failed}
-use Rattle.table.specs.Table.{no_cells, no_link, record_at, change_at, task_at, slot, link_at, remade}
+use Rattle.rules.specs.Words.{Place, Link, Machine, Ask, AskLlx, AskScx, AskVlx, AskRead, AskStep, Call, Refusal, Accepted, Refused, Out, Access, Check, Ok, Err}
+use Rattle.table.specs.Table.{no_link, record_at, change_at, task_at, slot, link_at, remade}
 use Rattle.rules.specs.Places.{change_of, access_of, is_idle}
 use Rattle.rules.specs.Perform.{record_of}
 use Rattle.rules.specs.Step.{drop_first}
@@ -35,7 +35,6 @@ kept_by h why =
       drop = 0;
       list = h.task.list;
       answer = Refused why;
-      cells = no_cells;
     }
 
 -- a start: no record and no link but those it drops
@@ -50,7 +49,6 @@ begun_of h b =
       drop = b.drop;
       list = b.list;
       answer = Accepted;
-      cells = no_cells;
     }
 
 -- a step: no number is taken
@@ -65,7 +63,6 @@ stepped_of h d =
       drop = d.drop;
       list = h.task.list;
       answer = d.answer;
-      cells = d.cells;
     }
 
 abbrev pub passed_of : Hand → Ask → List ℕ → Turned
@@ -77,8 +74,8 @@ passed_of h (AskRead r f) l = begun_of h (begun_by (AskRead r f) l h.used h.task
 passed_of h AskStep l = stepped_of h (act_of h.task h.access h.change h.rec h.link)
 
 abbrev pub checked_of : Check → Hand → Call → Turned
-checked_of Passed h e = passed_of h e.ask e.list
-checked_of (Failed why) h e = kept_by h why
+checked_of (Ok _) h e = passed_of h e.ask e.list
+checked_of (Err why) h e = kept_by h why
 
 unfoldable pub turn_of : Hand → Call → Turned
 turn_of h e =
@@ -125,7 +122,6 @@ put_turn m t c r d =
       m = let links = drop_first (set m.links (slot t r) d.link) t (clip d.list) d.drop in
           remade m d.used (set m.records r d.rec) (set m.changes c d.change) (set m.tasks t d.task) links;
       answer = d.answer;
-      cells = d.cells;
     }
 
 -- THE CALL

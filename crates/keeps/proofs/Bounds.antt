@@ -8,7 +8,7 @@ use Rattle.keeps.proofs.Acts.{acts}
 use Rattle.keeps.proofs.Moves.{MoveFine, moves}
 use Rattle.table.specs.Table.{task_at, link_at}
 use Rattle.rules.specs.Perform.{record_of, seen}
-use Rattle.rules.specs.Step.{access_at, move_at}
+use Rattle.rules.specs.Step.{drop_of, access_at, move_at}
 use Rattle.rules.specs.Shape.{InShape}
 
 module _ (m : Machine) (S : InShape m) where
@@ -38,5 +38,5 @@ module _ (m : Machine) (S : InShape m) where
         let info = (link_at m t (record_of (access_at m t))).info in
         moves m (fine m S) (λ r. (link_at m t r).there) x.cells x.list info x.place ((fine m S).task_fine_lem t tl)
 
-    pub list<32 : (k : ℕ) → k < (move_at m t).drop → get_or (task_at m t).list k 0 < 32
+    pub list<32 : (k : ℕ) → k < drop_of (move_at m t) → get_or (task_at m t).list k 0 < 32
     list<32 k q = let b = moved.list_fine_lem k q in omega (arith, n≤32)

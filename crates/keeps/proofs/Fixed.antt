@@ -7,7 +7,7 @@ use mathlib.Core.Path.{◌≡◌, refl}
 use mathlib.Core.List.{List}
 use lib.ListN.{get_or, set}
 use lib.Seq.{get_or-set_other}
-use Rattle.rules.specs.Words.{Change, Machine, Ask, AskLlx, AskScx, AskVlx, AskRead, AskStep, Access, Call, Check, Passed, Failed}
+use Rattle.rules.specs.Words.{Change, Machine, Ask, AskLlx, AskScx, AskVlx, AskRead, AskStep, Access, Call, Check, Ok, Err}
 use Rattle.keeps.proofs.Stores.{any}
 use Rattle.table.specs.Table.{no_change, change_at}
 use Rattle.rules.specs.Perform.{change_in, change_by, perform}
@@ -54,8 +54,8 @@ unfolding next refused
 fixed m e u q = go (check (rules_of m e))
   where
     go : (c : Check) → Same (change_at (answered c m e).m u) (change_at m u)
-    go Passed = by_accepted m e.task e.ask e.list u q
-    go (Failed why) = alike (change_at m u)
+    go (Ok _) = by_accepted m e.task e.ask e.list u q
+    go (Err why) = alike (change_at m u)
 
 -- "given in order and never given twice": the used count never falls, and a start takes the number above it
 used_accepted : (m : Machine) (t : ℕ) (ask : Ask) (l : List ℕ) → m.used ≤ (accepted m t ask l).m.used
@@ -71,5 +71,5 @@ unfolding next refused
 used_rises m e = go (check (rules_of m e))
   where
     go : (c : Check) → m.used ≤ (answered c m e).m.used
-    go Passed = used_accepted m e.task e.ask e.list
-    go (Failed why) = le_refl m.used
+    go (Ok _) = used_accepted m e.task e.ask e.list
+    go (Err why) = le_refl m.used

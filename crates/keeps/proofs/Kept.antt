@@ -6,7 +6,7 @@ use mathlib.Core.Path.{◌≡◌, refl}
 use mathlib.Core.Bool.{true}
 use mathlib.Core.List.{List}
 use lib.ListN.{length}
-use Rattle.rules.specs.Words.{Machine, Ask, AskLlx, AskScx, AskVlx, AskRead, AskStep, Call, Check, Passed, Failed}
+use Rattle.rules.specs.Words.{Machine, Ask, AskLlx, AskScx, AskVlx, AskRead, AskStep, Call, Check, Ok, Err}
 use Rattle.keeps.proofs.Fine.{Fine, fine, in_shape_lem}
 use Rattle.keeps.proofs.Steps.{step_keeps}
 use Rattle.keeps.proofs.Starts.{llx_keeps, vlx_keeps, read_keeps}
@@ -39,10 +39,10 @@ unfolding next rules_of refused
 kept m e size s = go (check (rules_of m e)) refl
   where
     go : (c : Check) → check (rules_of m e) ≡ c → InShape (answered c m e).m
-    go Passed h =
+    go (Ok _) h =
         in_shape_lem (accepted m e.task e.ask e.list).m
         (accepted_keeps m (fine m s) size e.task e.ask e.list (passed (rules_of m e) h).1)
-    go (Failed why) h = s
+    go (Err why) h = s
 
 -- the same of the test for refusal 10
 pub kept_test : (m : Machine) (e : Call) → length m.changes ≡ 256 → in_shape m ≡ true → in_shape (next m e).m ≡ true

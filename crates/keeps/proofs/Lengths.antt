@@ -5,17 +5,17 @@ use mathlib.Core.Bool.{true}
 use mathlib.Core.List.{List}
 use lib.ListN.{get_or, set, length, length-set, length-replicate, get_or-replicate}
 use lib.Dec.{ltb}
-use Rattle.rules.specs.Words.{Cell, Record, Change, Task, Link, Machine}
+use Rattle.rules.specs.Words.{Cell, Record, Change, Task, Link, Machine, Move, Keep}
 use Rattle.rules.specs.Words.{Access, Nothing, ReadMark, ReadInfo, ReadCell, ReadState, ReadFrozen}
 use Rattle.rules.specs.Words.{Hold, Close, Write, Freeze, Abort, Commit}
-use Rattle.rules.specs.Words.{Ask, AskLlx, AskScx, AskVlx, AskRead, AskStep, Call, Check, Passed, Failed}
+use Rattle.rules.specs.Words.{Ask, AskLlx, AskScx, AskVlx, AskRead, AskStep, Call, Check, Ok, Err}
 use Rattle.keeps.proofs.Stores.{any, picked}
 use Rattle.keeps.proofs.Frame.{put}
 use Rattle.table.specs.Table.{pick, no_record, no_task, cell_at, record_at, task_at, slot, same_cell}
 use Rattle.table.specs.Fresh.{fresh_record, empty_record, fresh_records, empty_change, idle_task, empty_link, fresh_machine, in_range, fresh}
 use Rattle.table.proofs.Tabulate.{length_tabulate, get_d_tabulate}
 use Rattle.rules.specs.Perform.{touch, record_of, record_by, perform}
-use Rattle.rules.specs.Step.{drop_first, settle, access_at, step}
+use Rattle.rules.specs.Step.{cells_by, drop_first, settle, access_at, move_at, step}
 use Rattle.rules.specs.Start.{start}
 use Rattle.rules.specs.Refuse.{check, rules_of}
 use Rattle.rules.specs.Next.{refused, started, accepted, answered, next}
@@ -49,6 +49,10 @@ fresh_sized p n values e =
     })
 
 -- an access and a drop keep the lengths
+kept_lem : (cs : List Cell) (c : Cell) (v : Move) → length (cells_by cs c v) ≡ length cs
+kept_lem cs c (Keep q f) = length-set cs f c
+kept_lem cs c v = refl
+
 same_cells_lem : (a : Access) (cs : List Cell) → length ((touch a).cells cs) ≡ length cs
 same_cells_lem Nothing cs = refl
 same_cells_lem (ReadMark r) cs = refl
@@ -104,12 +108,12 @@ module _ (m : Machine) (Z : Sized m) where
       (same_links _ t _ _ ∙ length-set m.links _ _ ∙ Z.links)
       (λ j l. any (λ (y : Record). length y.cells ≡ 4) m.records (record_of a) (record_by a x) no_record j
       (λ e. same_cells_lem a x.cells ∙ Z.record_cells (record_of a) (rw e at l)) (Z.record_cells j l))
-      (λ l. length-set (task_at m t).cells _ _ ∙ Z.task_cells t l)
+      (λ l. kept_lem (task_at m t).cells _ (move_at m t) ∙ Z.task_cells t l)
 
 pub kept_sized : (m : Machine) (e : Call) → Sized m → Sized (next m e).m
 unfolding next refused
 kept_sized m e Z = go (check (rules_of m e))
   where
     go : (c : Check) → Sized (answered c m e).m
-    go Passed = accepted_sized m Z e.task e.ask e.list
-    go (Failed why) = Z
+    go (Ok _) = accepted_sized m Z e.task e.ask e.list
+    go (Err why) = Z

@@ -6,7 +6,7 @@ use mathlib.Core.Path.{◌≡◌, refl, ap}
 use mathlib.Core.Bool.{Bool, true, false}
 use mathlib.Core.List.{List, [], ◌∷◌, ◌++◌, map}
 use lib.Dec.{ltb}
-use Rattle.rules.specs.Words.{Machine, Call, Refusal, Passed, Failed}
+use Rattle.rules.specs.Words.{Machine, Call, Refusal, Ok, Err}
 use Rattle.rules.specs.Words.{Ask, AskLlx, AskScx, AskVlx, AskRead, AskStep}
 use Rattle.table.specs.Table.{pick}
 use Rattle.rules.specs.Claim.{test}
@@ -19,15 +19,15 @@ pub record Broken (rs : List Rule) (why : Refusal) : Type 0 where
   pub broken : Rule
   pub others : List Rule
   pub are : rs ≡ kept ++ (broken ∷ others)
-  pub all_kept : check kept ≡ Passed
+  pub all_kept : check kept ≡ Ok tt
   pub fails : test 0 broken.unless ≡ false
   pub named : broken.why ≡ why
 
-pub lowest : (rs : List Rule) (why : Refusal) → check rs ≡ Failed why → Broken rs why
+pub lowest : (rs : List Rule) (why : Refusal) → check rs ≡ Err why → Broken rs why
 lowest [] why h = let z : ◌≡◌ {A = ℕ} 0 1 = cc in absurd (omega arith)
 lowest (x ∷ xs) why h = go (test 0 x.unless) refl h (λ e. lowest xs why e)
   where
-    go : (b : Bool) → test 0 x.unless ≡ b → pick b (check xs) (Failed x.why) ≡ Failed why → (check xs ≡ Failed why → Broken xs why)
+    go : (b : Bool) → test 0 x.unless ≡ b → pick b (check xs) (Err x.why) ≡ Err why → (check xs ≡ Err why → Broken xs why)
         → Broken (x ∷ xs) why
     go true e f later =
         let y = later f in

@@ -18,9 +18,11 @@ use Rattle.keeps.proofs.Places.{relinked}
 use Rattle.keeps.proofs.Acts.{Claimed, seen_from}
 use Rattle.table.specs.Table.{pick, no_cell, record_at, change_at, state_of}
 use Rattle.rules.specs.Places.{change_of, resume}
-use Rattle.rules.specs.Resume.{on, on_with, done, snapshot, no_and_drop, after_l4, after_l5, after_l6, after_l7, after_l8, after_l10, after_l11}
+use Rattle.rules.specs.Words.{On, Keep, Done, Store, Unlink}
+use Rattle.rules.specs.Resume.{after_l4, after_l5, after_l6, after_l7, after_l8, after_l10, after_l11}
 use Rattle.rules.specs.Resume.{verdict, after_held, first_from, at_mark, after_vlx}
 use Rattle.rules.proofs.FirstFrom.{first_from_lem}
+use Rattle.rules.specs.Step.{place_of, cells_by, stores_link, drop_of}
 use Rattle.rules.specs.Claim.{Says}
 use Rattle.rules.specs.Shape.{stamps_known, after_fine}
 
@@ -36,10 +38,10 @@ joins used cs f c cl h n nl j q = stored (λ (x : Cell). x.stamp ≤ used) cs f 
 
 -- The links of the task may be others then, as long as those of a VLX that goes on are there: it drops none.
 pub record MoveFine (m : Machine) (linked : ℕ → Bool) (cs : List Cell) (l : List ℕ) (s : Seen) (v : Move) : Type 0 where
-  pub place_fine_lem : (linked' : ℕ → Bool) → (v.drop ≡ 0 → (r : ℕ) → r < m.n → linked r ≡ true → linked' r ≡ true)
-      → Claimed m linked' (set cs v.field s.cell) l v.place
-  pub link_fine_lem : v.store ≡ true → (s.number ≤ m.used) × Says m.used (stamps_known 4 cs)
-  pub list_fine_lem : (k : ℕ) → k < v.drop → get_or l k 0 < m.n
+  pub place_fine_lem : (linked' : ℕ → Bool) → (drop_of v ≡ 0 → (r : ℕ) → r < m.n → linked r ≡ true → linked' r ≡ true)
+      → Claimed m linked' (cells_by cs s.cell v) l (place_of v)
+  pub link_fine_lem : stores_link v ≡ true → (s.number ≤ m.used) × Says m.used (stamps_known 4 cs)
+  pub list_fine_lem : (k : ℕ) → k < drop_of v → get_or l k 0 < m.n
 
 module _ (m : Machine) (F : Fine m) (linked : ℕ → Bool) (cs : List Cell) (l : List ℕ) where
   abbrev Moved : Seen → Move → Type 0
@@ -48,26 +50,26 @@ module _ (m : Machine) (F : Fine m) (linked : ℕ → Bool) (cs : List Cell) (l 
   none : (k : ℕ) → k < 0 → get_or l k 0 < m.n
   none k q = absurd (not-suc-le-zero q)
 
-  on_fine : {s : Seen} (q : Place) → Claimed m linked (set cs 4 s.cell) l q → Moved s (on q)
+  on_fine : {s : Seen} (q : Place) → Claimed m linked cs l q → Moved s (On q)
   on_fine {s} q h =
       let ch = change_at m (change_of q) in
       record {
-        place_fine_lem = λ linked' k. relinked m.used m.n ch.n ch.r linked (set cs 4 s.cell) l linked' (k refl) q h;
+        place_fine_lem = λ linked' k. relinked m.used m.n ch.n ch.r linked cs l linked' (k refl) q h;
         link_fine_lem = λ e. absurd (false≢true e);
         list_fine_lem = none;
       }
 
-  done_fine : {s : Seen} (a : Answer) → Moved s (done a)
+  done_fine : {s : Seen} (a : Answer) → Moved s (Done a)
   done_fine a = record { place_fine_lem = λ linked' k. tt; link_fine_lem = λ e. absurd (false≢true e); list_fine_lem = none }
 
-  after_l4_lem : {s : Seen} (r : ℕ) (m1 : Bool) (a : ℕ) (state : State) (m2 : Bool) → (r < m.n) × (a ≤ m.used) → Moved s (on (after_l4 r m1 a state m2))
+  after_l4_lem : {s : Seen} (r : ℕ) (m1 : Bool) (a : ℕ) (state : State) (m2 : Bool) → (r < m.n) × (a ≤ m.used) → Moved s (On (after_l4 r m1 a state m2))
   after_l4_lem r m1 a InProgress m2 h = on_fine (L7 r m1 a) h
   after_l4_lem r m1 a Committed false h = on_fine (L5 r m1 a 0) (h.0, (h.1, (lit< tt, λ k q. absurd (not-suc-le-zero q))))
   after_l4_lem r m1 a Committed true h = on_fine (L7 r m1 a) h
   after_l4_lem r m1 a Aborted m2 h = on_fine (L5 r m1 a 0) (h.0, (h.1, (lit< tt, λ k q. absurd (not-suc-le-zero q))))
 
   after_l5_lem : {s : Seen} (r : ℕ) (m1 : Bool) (a f : ℕ) → Claimed m linked cs l (L5 r m1 a f) → s.cell.stamp ≤ m.used
-      → Moved s (on_with (after_l5 r m1 a f) f)
+      → Moved s (Keep (after_l5 r m1 a f) f)
   after_l5_lem {s} r m1 a f h c =
       let known = joins m.used cs f s.cell c h.1.1.1 in
       record {
@@ -80,7 +82,7 @@ module _ (m : Machine) (F : Fine m) (linked : ℕ → Bool) (cs : List Cell) (l 
 
   after_l6_lem : {s : Seen} (r : ℕ) (m1 : Bool) (a : ℕ) → Claimed m linked cs l (L6 r m1 a) → s.number ≤ m.used → Moved s (after_l6 r m1 a s.number)
   after_l6_lem {s} r m1 a h c =
-      picked (Moved s) (eqb s.number a) snapshot (on (L7 r m1 a))
+      picked (Moved s) (eqb s.number a) Store (On (L7 r m1 a))
       (λ e. record { place_fine_lem = λ linked' k. tt; link_fine_lem = λ e. (c, h.1.1); list_fine_lem = none })
       (λ e. on_fine (L7 r m1 a) (h.0, h.1.0))
 
@@ -95,7 +97,7 @@ module _ (m : Machine) (F : Fine m) (linked : ℕ → Bool) (cs : List Cell) (l 
   first u u0 ul = (F.change_fine_lem u u0 ul).0.0.0
 
   after_l8_lem : {s : Seen} (r : ℕ) (m1 : Bool) (a : ℕ) (state : State) → state_of a (change_at m a) ≡ state → (r < m.n) × (a ≤ m.used)
-      → Moved s (on (after_l8 r m1 a state))
+      → Moved s (On (after_l8 r m1 a state))
   after_l8_lem r m1 a InProgress e h = let a0 = above a (change_at m a) e in on_fine (H1 a 0 (AtL8 r m1)) (first a a0 h.1, (a0, (h.1, h.0)))
   after_l8_lem r m1 a Committed e h = on_fine (L9 r) h.0
   after_l8_lem r m1 a Aborted e h = on_fine (L9 r) h.0
@@ -107,7 +109,7 @@ module _ (m : Machine) (F : Fine m) (linked : ℕ → Bool) (cs : List Cell) (l 
 
   after_l11_lem : {s : Seen} (c : ℕ) → c ≤ m.used → Moved s (after_l11 c)
   after_l11_lem {s} c h =
-      picked (Moved s) (eqb c 0) (done Fail) (on (H1 c 0 AtL11)) (λ e. done_fine _)
+      picked (Moved s) (eqb c 0) (Done Fail) (On (H1 c 0 AtL11)) (λ e. done_fine _)
       (λ e. let c0 : 0 < c = omega (arith, eqb-false c 0 e) in on_fine (H1 c 0 AtL11) (first c c0 h, (c0, (h, tt))))
 
   verdict_fine : {s : Seen} (ok : Bool) (after : After) → Says m.used (after_fine m.n after) → Moved s (verdict ok after)
@@ -120,25 +122,25 @@ module _ (m : Machine) (F : Fine m) (linked : ℕ → Bool) (cs : List Cell) (l 
 
   -- after a place of V is held, and after a record of R is marked
   after_held_lem : {s : Seen} (b : Bool) (u i : ℕ) (after : After) (q : Place)
-      → Claimed m linked cs l (H5 u after) → Claimed m linked (set cs 4 s.cell) l q
-      → Moved s (on (pick b (after_held u i (change_at m u).n after) q))
+      → Claimed m linked cs l (H5 u after) → Claimed m linked cs l q
+      → Moved s (On (pick b (after_held u i (change_at m u).n after) q))
   after_held_lem {s} b u i after q h k =
       let n = (change_at m u).n in
-      let C = Claimed m linked (set cs 4 s.cell) l in
+      let C = Claimed m linked cs l in
       on_fine (pick b (after_held u i n after) q)
       (picked C b (after_held u i n after) q
       (λ e. picked C (ltb (i + 1) n) (H1 u (i + 1) after) (H5 u after) (λ f. (ltb-true (i + 1) n f, h)) (λ f. h)) (λ e. k))
 
-  after_mark : {s : Seen} (u i : ℕ) (after : After) → (i < 4 → get_or (change_at m u).r i false ≡ true) → Claimed m linked cs l (H5 u after) → Moved s (on (at_mark u i after))
+  after_mark : {s : Seen} (u i : ℕ) (after : After) → (i < 4 → get_or (change_at m u).r i false ≡ true) → Claimed m linked cs l (H5 u after) → Moved s (On (at_mark u i after))
   after_mark {s} u i after q h =
       on_fine (at_mark u i after)
-      (picked (Claimed m linked (set cs 4 s.cell) l) (ltb i 4) (H6 u i after) (H7 u after)
+      (picked (Claimed m linked cs l) (ltb i 4) (H6 u i after) (H7 u after)
       (λ e. let l = ltb-true i 4 e in ((F.change_fine_lem u h.0 h.1.0).1.0 i l (q l), (q l, h))) (λ e. h))
 
   after_vlx_lem : {s : Seen} (n i now info : ℕ) → Claimed m linked cs l (Vlx n i) → Moved s (after_vlx n i now info)
   after_vlx_lem {s} n i now info h =
-      picked (Moved s) (eqb now info) (pick (ltb (i + 1) n) (on (Vlx n (i + 1))) (done Yes)) (no_and_drop n)
-      (λ e. picked (Moved s) (ltb (i + 1) n) (on (Vlx n (i + 1))) (done Yes)
+      picked (Moved s) (eqb now info) (pick (ltb (i + 1) n) (On (Vlx n (i + 1))) (Done Yes)) (Unlink n)
+      (λ e. picked (Moved s) (ltb (i + 1) n) (On (Vlx n (i + 1))) (Done Yes)
       (λ f. on_fine (Vlx n (i + 1)) (ltb-true (i + 1) n f, h.1)) (λ f. done_fine Yes))
       (λ e. record { place_fine_lem = λ linked' k. tt; link_fine_lem = λ e. absurd (false≢true e); list_fine_lem = h.1.0.1.0 })
 
@@ -164,7 +166,7 @@ module _ (m : Machine) (F : Fine m) (linked : ℕ → Bool) (cs : List Cell) (l 
       after_held_lem (eqb (record_at m (get_or ch.v i 0)).info (get_or ch.infos i 0)) u i after (H2 u i after) h.1 h
   moves info (H2 u i after) h = after_held_lem (eqb (record_at m (get_or (change_at m u).v i 0)).info u) u i after (H3 u after) h.1 h.1
   moves info (H3 u after) h =
-      picked (Moved _) (change_at m u).frozen (verdict true after) (on (H4 u after))
+      picked (Moved _) (change_at m u).frozen (verdict true after) (On (H4 u after))
       (λ e. verdict_fine true after h.1.1) (λ e. on_fine (H4 u after) h)
   moves info (H4 u after) h = verdict_fine false after h.1.1
   moves info (H5 u after) h = after_mark u (first_from (change_at m u).r 0) after (first_from_lem (change_at m u).r 0).found h

@@ -4,7 +4,7 @@ use native.Mathlib.Omega.{arith}
 use mathlib.Core.Path.{◌≡◌, refl}
 use mathlib.Core.Bool.{Bool, true, false}
 use mathlib.Core.List.{List, [], ◌∷◌}
-use Rattle.rules.specs.Words.{Machine, Ask, Check, Passed, Failed}
+use Rattle.rules.specs.Words.{Machine, Ask, Check, Ok, Err}
 use Rattle.table.specs.Table.{pick}
 use Rattle.rules.specs.Claim.{Says, test}
 use Rattle.rules.specs.Refuse.{Rule, check, rules, idle_at, linked_at}
@@ -18,10 +18,10 @@ Obeyed (x ∷ xs) = Says 0 x.unless × Obeyed xs
 abbrev pub Obeys : Machine → ℕ → Ask → List ℕ → Type 0
 Obeys m t ask l = Obeyed (rules m.p m.n m.used (idle_at m t) (linked_at m (record { task = t; ask = ask; list = l })) t ask l)
 
-first : (b : Bool) (x : Rule) (rest : Check) → pick b rest (Failed x.why) ≡ Passed → (b ≡ true) × (rest ≡ Passed)
+first : (b : Bool) (x : Rule) (rest : Check) → pick b rest (Err x.why) ≡ Ok tt → (b ≡ true) × (rest ≡ Ok tt)
 first true x rest h = (refl, h)
 first false x rest h = let z : ◌≡◌ {A = ℕ} 0 1 = cc in absurd (omega arith)
 
-pub passed : (xs : List Rule) → check xs ≡ Passed → Obeyed xs
+pub passed : (xs : List Rule) → check xs ≡ Ok tt → Obeyed xs
 passed [] h = tt
 passed (x ∷ xs) h = let f = first (test 0 x.unless) x (check xs) h in (told 0 x.unless f.0, passed xs f.1)

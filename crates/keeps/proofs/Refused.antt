@@ -8,15 +8,16 @@ use mathlib.Core.Bool.{Bool, true, false, not, true≢false}
 use mathlib.Core.List.{List, ◌∷◌}
 use lib.Dec.{eqb, ltb}
 use lib.Seq.{get_or-set_other}
-use Rattle.rules.specs.Words.{State, InProgress, Committed, Aborted, Change, After, Own, AtL8, AtL11, Machine, Seen, Move}
+use Rattle.rules.specs.Words.{Cell, State, InProgress, Committed, Aborted, Change, After, Own, AtL8, AtL11, Machine, Seen, Move}
 use Rattle.rules.specs.Words.{Place, Idle, L1, L2, L3, L4, L5, L6, L7, L8, L9, L10, L11, H1, H2, H3, H4, H5, H6, H7, H8, Vlx, Read}
-use Rattle.rules.specs.Words.{Ask, AskLlx, AskScx, AskVlx, AskRead, AskStep, Call, Check, Passed, Failed}
+use Rattle.rules.specs.Words.{Ask, AskLlx, AskScx, AskVlx, AskRead, AskStep, Call, Check, Ok, Err}
 use Rattle.rules.specs.Words.{Refusal, OutOfShape, NoSuchTask, TaskIdle}
 use Rattle.rules.specs.Words.{Answer, Accepted, Snapshot, Finalized, Fail, Yes, No, Value, Refused}
 use Rattle.table.specs.Table.{pick, change_at, task_at, no_change}
 use Rattle.rules.specs.Places.{resume, is_idle}
-use Rattle.rules.specs.Resume.{on, done, snapshot, no_and_drop, verdict, after_l4, after_l7, after_l8, after_l10, after_held, first_from}
-use Rattle.rules.specs.Step.{move_at, step}
+use Rattle.rules.specs.Words.{On, Done, Store, Unlink}
+use Rattle.rules.specs.Resume.{verdict, after_l4, after_l7, after_l8, after_l10, after_held, first_from}
+use Rattle.rules.specs.Step.{place_of, answer_of, move_at, step}
 use Rattle.rules.specs.Start.{filled, start}
 use Rattle.rules.specs.Refuse.{unless, check, rules, idle_at, linked_at, rules_of}
 use Rattle.rules.specs.Claim.{holds}
@@ -25,7 +26,7 @@ use Rattle.rules.specs.Next.{refused, started, accepted, answered, next}
 
 abbrev pub is_refusal : Answer → Bool
 is_refusal Accepted = false
-is_refusal Snapshot = false
+is_refusal (Snapshot cells) = false
 is_refusal Finalized = false
 is_refusal Fail = false
 is_refusal Yes = false
@@ -35,7 +36,7 @@ is_refusal (Refused why) = true
 
 abbrev pub is_accepted : Answer → Bool
 is_accepted Accepted = true
-is_accepted Snapshot = false
+is_accepted (Snapshot cells) = false
 is_accepted Finalized = false
 is_accepted Fail = false
 is_accepted Yes = false
@@ -45,15 +46,15 @@ is_accepted (Refused why) = false
 
 -- a move that answers no refusal, and is idle exactly if its answer is not 0
 pub record Plain (v : Move) : Type 0 where
-  pub no_refusal : is_refusal v.answer ≡ false
-  pub ends : is_idle v.place ≡ not (is_accepted v.answer)
+  pub no_refusal : (cs : List Cell) → is_refusal (answer_of cs v) ≡ false
+  pub ends : (cs : List Cell) → is_idle (place_of v) ≡ not (is_accepted (answer_of cs v))
 
 -- on to a place that is not idle, and done with an answer
-going : (q : Place) → is_idle q ≡ false → Plain (on q)
-going q h = record { no_refusal = refl; ends = h }
+going : (q : Place) → is_idle q ≡ false → Plain (On q)
+going q h = record { no_refusal = λ cs. refl; ends = λ cs. h }
 
-ended : (a : Answer) → is_refusal a ≡ false → is_accepted a ≡ false → Plain (done a)
-ended a h k = record { no_refusal = h; ends = rw k refl }
+ended : (a : Answer) → is_refusal a ≡ false → is_accepted a ≡ false → Plain (Done a)
+ended a h k = record { no_refusal = λ cs. h; ends = λ cs. rw k refl }
 
 either : (b : Bool) (v w : Move) → Plain v → Plain w → Plain (pick b v w)
 either true v w h k = h
@@ -104,27 +105,27 @@ plain (L2 r m1) s ch linked h = going _ refl
 plain (L3 r m1 a) s ch linked h = going _ refl
 plain (L4 r m1 a read) s ch linked h = going _ (busy_l4 r m1 a read s.bit)
 plain (L5 r m1 a f) s ch linked h =
-    record { no_refusal = refl; ends = one_of (ltb f 3) (L5 r m1 a (f + 1)) (L6 r m1 a) refl refl }
+    record { no_refusal = λ cs. refl; ends = λ cs. one_of (ltb f 3) (L5 r m1 a (f + 1)) (L6 r m1 a) refl refl }
 plain (L6 r m1 a) s ch linked h =
-    either (eqb s.number a) snapshot (on (L7 r m1 a)) (record { no_refusal = refl; ends = refl }) (going _ refl)
+    either (eqb s.number a) Store (On (L7 r m1 a)) (record { no_refusal = λ cs. refl; ends = λ cs. refl }) (going _ refl)
 plain (L7 r m1 a) s ch linked h = plain_l7 r m1 a s.state
 plain (L8 r m1 a) s ch linked h = going _ (busy_l8 r m1 a s.state)
 plain (L9 r) s ch linked h = going _ refl
 plain (L10 r b) s ch linked h = plain_l10 r s.state
 plain (L11 r) s ch linked h =
-    either (eqb s.number 0) (done Fail) (on (H1 s.number 0 AtL11)) (ended Fail refl refl) (going _ refl)
+    either (eqb s.number 0) (Done Fail) (On (H1 s.number 0 AtL11)) (ended Fail refl refl) (going _ refl)
 plain (H1 u i after) s ch linked h = going _ (one_of s.bit (after_held u i ch.n after) (H2 u i after) (busy_held u i ch.n after) refl)
 plain (H2 u i after) s ch linked h =
     going _ (one_of (eqb s.number u) (after_held u i ch.n after) (H3 u after) (busy_held u i ch.n after) refl)
-plain (H3 u after) s ch linked h = either s.bit (verdict true after) (on (H4 u after)) (plain_verdict true after) (going _ refl)
+plain (H3 u after) s ch linked h = either s.bit (verdict true after) (On (H4 u after)) (plain_verdict true after) (going _ refl)
 plain (H4 u after) s ch linked h = plain_verdict false after
 plain (H5 u after) s ch linked h = going _ (one_of (ltb (first_from ch.r 0) 4) (H6 u _ after) (H7 u after) refl refl)
 plain (H6 u i after) s ch linked h = going _ (one_of (ltb (first_from ch.r (i + 1)) 4) (H6 u _ after) (H7 u after) refl refl)
 plain (H7 u after) s ch linked h = going _ refl
 plain (H8 u after) s ch linked h = plain_verdict true after
 plain (Vlx n i) s ch linked h =
-    either (eqb s.number linked) (pick (ltb (i + 1) n) (on (Vlx n (i + 1))) (done Yes)) (no_and_drop n)
-    (either (ltb (i + 1) n) (on (Vlx n (i + 1))) (done Yes) (going _ refl) (ended Yes refl refl)) (record { no_refusal = refl; ends = refl })
+    either (eqb s.number linked) (pick (ltb (i + 1) n) (On (Vlx n (i + 1))) (Done Yes)) (Unlink n)
+    (either (ltb (i + 1) n) (On (Vlx n (i + 1))) (Done Yes) (going _ refl) (ended Yes refl refl)) (record { no_refusal = λ cs. refl; ends = λ cs. refl })
 plain (Read r f) s ch linked h = ended _ refl refl
 
 -- what an accepted call answers is no refusal
@@ -135,25 +136,25 @@ plain_accepted m t (AskLlx r) l h = refl
 plain_accepted m t (AskScx n r written field new) l h = refl
 plain_accepted m t (AskVlx n) l h = refl
 plain_accepted m t (AskRead r f) l h = refl
-plain_accepted m t AskStep l h = (plain (task_at m t).place _ _ _ (h refl)).no_refusal
+plain_accepted m t AskStep l h = (plain (task_at m t).place _ _ _ (h refl)).no_refusal (task_at m t).cells
 
 -- a STEP that passes its rules is of a busy task
 busy : (inside known idle : Bool) (why other more : Refusal)
-    → pick inside (pick known (pick (not idle) Passed (Failed why)) (Failed other)) (Failed more) ≡ Passed → idle ≡ false
+    → pick {A = Check} inside (pick known (pick (not idle) (Ok tt) (Err why)) (Err other)) (Err more) ≡ Ok tt → idle ≡ false
 busy true true false why other more h = refl
 busy true true true why other more h = let z : ◌≡◌ {A = ℕ} 0 1 = cc in absurd (omega arith)
 busy true false idle why other more h = let z : ◌≡◌ {A = ℕ} 0 1 = cc in absurd (omega arith)
 busy false known idle why other more h = let z : ◌≡◌ {A = ℕ} 0 1 = cc in absurd (omega arith)
 
-step_busy : (m : Machine) (e : Call) → check (rules_of m e) ≡ Passed → e.ask ≡ AskStep → idle_at m e.task ≡ false
+step_busy : (m : Machine) (e : Call) → check (rules_of m e) ≡ Ok tt → e.ask ≡ AskStep → idle_at m e.task ≡ false
 unfolding rules_of
 step_busy m e h ask =
     busy (in_shape m) (ltb e.task m.p) (idle_at m e.task) TaskIdle NoSuchTask OutOfShape
     (subst (λ ask. check (unless OutOfShape (holds (in_shape m))
-    ∷ rules m.p m.n m.used (idle_at m e.task) (linked_at m e) e.task ask e.list) ≡ Passed) ask h)
+    ∷ rules m.p m.n m.used (idle_at m e.task) (linked_at m e) e.task ask e.list) ≡ Ok tt) ask h)
 
 -- what passes its rules is not refused
-pub passed_answers : (m : Machine) (e : Call) → check (rules_of m e) ≡ Passed → is_refusal (next m e).answer ≡ false
+pub passed_answers : (m : Machine) (e : Call) → check (rules_of m e) ≡ Ok tt → is_refusal (next m e).answer ≡ false
 unfolding next
 passed_answers m e h = rw h (plain_accepted m e.task e.ask e.list (step_busy m e h))
 
@@ -163,8 +164,8 @@ unfolding next refused
 refusal_alters_nothing m e h = go (check (rules_of m e)) refl h
   where
     go : (c : Check) → check (rules_of m e) ≡ c → is_refusal (answered c m e).answer ≡ true → (answered c m e).m ≡ m
-    go Passed f k = absurd (true≢false (sym k ∙ plain_accepted m e.task e.ask e.list (step_busy m e f)))
-    go (Failed why) f k = refl
+    go (Ok _) f k = absurd (true≢false (sym k ∙ plain_accepted m e.task e.ask e.list (step_busy m e f)))
+    go (Err why) f k = refl
 
 -- "STARTING AN OPERATION MAKES NO SHARED ACCESS": the records are as they were, and every change but the one that is taken
 pub start_keeps_records : (m : Machine) (t : ℕ) (ask : Ask) (l : List ℕ) → (start m t ask l).records ≡ m.records

@@ -20,7 +20,7 @@ use Rattle.keeps.proofs.Fixed.{Same, by_access}
 use Rattle.table.specs.Table.{no_record, no_change, no_link, record_at, change_at, task_at, slot, link_at}
 use Rattle.rules.specs.Places.{change_of, resume}
 use Rattle.rules.specs.Perform.{record_of, change_in, record_by, change_by, seen, perform}
-use Rattle.rules.specs.Step.{task_by, link_by, drop_first, settle, access_at, move_at, step}
+use Rattle.rules.specs.Step.{place_of, cells_by, stores_link, drop_of, task_by, link_by, drop_first, settle, access_at, move_at, step}
 use Rattle.rules.specs.Claim.{Says}
 use Rattle.rules.specs.Shape.{record_fine, change_fine, link_fine}
 
@@ -47,7 +47,7 @@ module _ (m : Machine) (F : Fine m) (t : ℕ) (tl : t < m.p) (a : Access) (s : S
   link = link_by (link_at m t (record_of a)) x s v
 
   abbrev links : List Link
-  links = drop_first (set m.links at link) t x.list v.drop
+  links = drop_first (set m.links at link) t x.list (drop_of v)
 
   abbrev Linked : Link → Type 0
   Linked k = Says m.used (link_fine k)
@@ -56,28 +56,28 @@ module _ (m : Machine) (F : Fine m) (t : ℕ) (tl : t < m.p) (a : Access) (s : S
   below_32 r l = omega (arith, F.n<33)
 
   link_fine_lem : Linked link
-  link_fine_lem = picked Linked v.store new (link_at m t (record_of a)) (λ e f. M.link_fine_lem e) (λ e. F.link_fine_lem t tl (record_of a) A.0)
+  link_fine_lem = picked Linked (stores_link v) new (link_at m t (record_of a)) (λ e f. M.link_fine_lem e) (λ e. F.link_fine_lem t tl (record_of a) A.0)
 
   links_fine : (j : ℕ) → j < m.p → (r : ℕ) → r < m.n → Linked (get_or links (slot j r) no_link)
   links_fine j jl r rl =
-      drop_each Linked (λ k h e. absurd (false≢true e)) (set m.links at link) t x.list v.drop (slot j r)
+      drop_each Linked (λ k h e. absurd (false≢true e)) (set m.links at link) t x.list (drop_of v) (slot j r)
       (any Linked m.links at link no_link (slot j r) (λ e. link_fine_lem) (F.link_fine_lem j jl r rl))
 
   others_stay : (j : ℕ) → j ≢ t → (r : ℕ) → r < m.n → get_or links (slot j r) no_link ≡ link_at m j r
   others_stay j d r rl =
       let r32 = below_32 r rl in
-      drop_apart (set m.links at link) t x.list v.drop j r d r32 (λ k q. below_32 (get_or x.list k 0) (M.list_fine_lem k q))
+      drop_apart (set m.links at link) t x.list (drop_of v) j r d r32 (λ k q. below_32 (get_or x.list k 0) (M.list_fine_lem k q))
       ∙ get_or-set_other m.links at (slot j r) link no_link (slots_apart t j (record_of a) r d (below_32 (record_of a) A.0) r32)
 
   -- a link of the task that is there stays so unless links are dropped
   abbrev There : Link → Type 0
   There k = k.there ≡ true
 
-  own_stay : v.drop ≡ 0 → (r : ℕ) → r < m.n → There (link_at m t r) → There (get_or links (slot t r) no_link)
+  own_stay : drop_of v ≡ 0 → (r : ℕ) → r < m.n → There (link_at m t r) → There (get_or links (slot t r) no_link)
   unfolding drop_first
   own_stay e r rl h =
       rw e
-      (any There m.links at link no_link (slot t r) (λ f. picked There v.store new (link_at m t (record_of a)) (λ g. refl) (λ g. rw f at h)) h)
+      (any There m.links at link no_link (slot t r) (λ f. picked There (stores_link v) new (link_at m t (record_of a)) (λ g. refl) (λ g. rw f at h)) h)
 
   -- what a change wrote down is as it was
   same : (u : ℕ) → Same (get_or changes u no_change) (change_at m u)
@@ -97,12 +97,12 @@ module _ (m : Machine) (F : Fine m) (t : ℕ) (tl : t < m.p) (a : Access) (s : S
 
   task_fine_lem : Says m.used (claim_of m.n changes links t (task_by x s v))
   task_fine_lem =
-      let u = change_of v.place in
+      let u = change_of (place_of v) in
       let ch = change_at m u in
       let later = get_or changes u no_change in
       let linked : ℕ → Bool = λ r. (get_or links (slot t r) no_link).there in
-      stays m.used m.n ch.n ch.r linked (set x.cells v.field s.cell) x.list m.used later.n later.r linked
-      (le_refl m.used) (same u).n (same u).r (λ r rl e. e) v.place (M.place_fine_lem linked own_stay)
+      stays m.used m.n ch.n ch.r linked (cells_by x.cells s.cell v) x.list m.used later.n later.r linked
+      (le_refl m.used) (same u).n (same u).r (λ r rl e. e) (place_of v) (M.place_fine_lem linked own_stay)
 
   stepped : Put m t m.used records changes (task_by x s v) links
   stepped =

@@ -8,8 +8,8 @@ use Rattle.rules.specs.Answer.{refusal_number, number, values}
 use Rattle.tally.specs.declared.Tally.{Tally}
 use Rattle.text.specs.Text.{row, lettered}
 
-unfoldable pub answer_line : ℕ → ℕ → Answer → List Cell → List ℕ
-answer_line k t answer cells = row (k ∷ t ∷ number answer ∷ values answer cells)
+unfoldable pub answer_line : ℕ → ℕ → Answer → List ℕ
+answer_line k t answer = row (k ∷ t ∷ number answer ∷ values answer)
 
 abbrev pub bit : Bool → ℕ
 bit b = pick b 1 0

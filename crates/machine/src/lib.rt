@@ -1,23 +1,25 @@
-// The public calls. Each takes any machine and any arguments, and answers what the rules say: the whole machine, the answer, the
-// cells of a snapshot. A refused call gives the machine back as it came.
+// The public calls. Each takes any machine and any arguments, and answers what the rules say: the whole machine and the answer.
+// A refused call gives the machine back as it came. They are no methods, since the type is another crate's; they take the machine by value,
+// since README and the pages show them so.
 #![tactic(auto)]
 
 ghost use Rattle.std.specs.Prelude.{◌≡◌};
 ghost use Rattle.rules.specs.Next as rules;
 
-use table::{Answer, Ask, Call, Cell, List, Machine, Out, Refusal};
+use table::{Answer, Ask, Call, List, Machine, Out, Refusal};
 
+#[tactic(auto, unfolding(rules::specs::Next::refused))]
 fn refused(m: Machine, why: Refusal) -> Out
     ensures { result ≡ rules.refused m why }
 {
     Out {
         m,
         answer: Answer::Refused { why },
-        cells: [Cell { value: 0, stamp: 0 }; Machine::FIELDS],
     }
 }
 
 // Any call: refusal 10, then the others in the order of their numbers, then the start or the step.
+#[tactic(auto, using(exact::proofs::Hand::turn_is, exact::proofs::Turn::out_of_shape))]
 pub fn call(m: Machine, e: Call) -> Out
     ensures { result ≡ rules.next m e }
 {

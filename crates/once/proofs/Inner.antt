@@ -1,13 +1,8 @@
 -- The functions on small values, and the turns, that the entry points are made of; and the numbers of answers and refusals.
-use mathlib.Core.Path.{sym, ◌∙◌}
-use Rattle.four.proofs.number_at.Kinds as four-number-at-kinds
-use Rattle.four.proofs.number_at.Reads as four-number-at-reads
-use Rattle.four.proofs.bool_at.Kinds as four-bool-at-kinds
-use Rattle.four.proofs.bool_at.Reads as four-bool-at-reads
-use Rattle.four.proofs.cell_at.Kinds as four-cell-at-kinds
-use Rattle.four.proofs.cell_at.Reads as four-cell-at-reads
-use Rattle.four.proofs.with_cell.Kinds as four-with-cell-kinds
-use Rattle.four.proofs.with_cell.Reads as four-with-cell-reads
+use mathlib.Core.Path.{sym, ap, ◌∙◌}
+use Rattle.rules.specs.Words.{Out}
+use Rattle.table.proofs.Refusal.unless.Kinds as table-unless-kinds
+use Rattle.table.proofs.Refusal.unless.Reads as table-unless-reads
 use Rattle.lists.proofs.within.Kinds as lists-within-kinds
 use Rattle.lists.proofs.within.Reads as lists-within-reads
 use Rattle.lists.proofs.length_fine.Kinds as lists-length-fine-kinds
@@ -54,25 +49,18 @@ use Rattle.begin.proofs.start.Kinds as begin-start-kinds
 use Rattle.begin.proofs.start.Reads as begin-start-reads
 use Rattle.act.proofs.act.Kinds as act-act-kinds
 use Rattle.act.proofs.act.Reads as act-act-reads
+use Rattle.turns.proofs.turn_on.Kinds as turns-turn-on-kinds
+use Rattle.turns.proofs.turn_on.Reads as turns-turn-on-reads
 use Rattle.turns.proofs.turn_in.Kinds as turns-turn-in-kinds
 use Rattle.turns.proofs.turn_in.Reads as turns-turn-in-reads
 use Rattle.answers.proofs.refusal_number.Kinds as answers-refusal-number-kinds
 use Rattle.answers.proofs.refusal_number.Reads as answers-refusal-number-reads
 use Rattle.answers.proofs.number_of.Kinds as answers-number-of-kinds
 use Rattle.answers.proofs.number_of.Reads as answers-number-of-reads
-use Rattle.once.proofs.Once.{Once}
+use Rattle.once.proofs.Once.{Once, OnceLent}
 
-pub four_number_at : Once 0 four-number-at-kinds.ps four-number-at-kinds.r four-number-at-reads.Post
-four_number_at κs a o p s t e f = e ∙ sym f
-
-pub four_bool_at : Once 0 four-bool-at-kinds.ps four-bool-at-kinds.r four-bool-at-reads.Post
-four_bool_at κs a o p s t e f = e ∙ sym f
-
-pub four_cell_at : Once 0 four-cell-at-kinds.ps four-cell-at-kinds.r four-cell-at-reads.Post
-four_cell_at κs a o p s t e f = e ∙ sym f
-
-pub four_with_cell : Once 0 four-with-cell-kinds.ps four-with-cell-kinds.r four-with-cell-reads.Post
-four_with_cell κs a o p s t e f = e ∙ sym f
+pub table_unless : Once 0 table-unless-kinds.ps table-unless-kinds.r table-unless-reads.Post
+table_unless κs a o p s t e f = e ∙ sym f
 
 pub lists_within : Once 0 lists-within-kinds.ps lists-within-kinds.r lists-within-reads.Post
 lists_within κs a o p s t e f = e ∙ sym f
@@ -142,6 +130,12 @@ begin_start κs a o p s t e f = e ∙ sym f
 
 pub act_act : Once 0 act-act-kinds.ps act-act-kinds.r act-act-reads.Post
 act_act κs a o p s t e f = e ∙ sym f
+
+pub turns_turn_on : Once 1 turns-turn-on-kinds.ps turns-turn-on-kinds.r turns-turn-on-reads.Post
+turns_turn_on κs a o p s t e f = ap (λ (x : Out). x.answer) (sym e ∙ f)
+
+pub turns_turn_on_lent : OnceLent 1 turns-turn-on-kinds.ps turns-turn-on-kinds.r turns-turn-on-reads.Post (λ κs s. s.0.now)
+turns_turn_on_lent κs a o p s t e f = ap (λ (x : Out). x.m) (sym e ∙ f)
 
 pub turns_turn_in : Once 0 turns-turn-in-kinds.ps turns-turn-in-kinds.r turns-turn-in-reads.Post
 turns_turn_in κs a o p s t e f = e ∙ sym f

@@ -2,6 +2,7 @@
 pub mod Once
 pub mod Entries
 pub mod Inner
+pub mod Generic
 pub mod Tally
 pub mod Sheets
 pub mod Walked

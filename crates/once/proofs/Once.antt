@@ -16,3 +16,7 @@ abbrev pub OnceLent : {A : Type 0} (n : ℕ) (ps : List (ParamKind n)) (r : Resu
 OnceLent n ps r Post held =
     (κs : Lfts n) (a : Dens κs ps) (o p : (res_t r κs).Denot) (s t : AtExit (ended_of n ps r) κs) → Post κs a o s → Post κs a p t
     → held κs s ≡ held κs t
+
+-- `Once` of a generic function: at every choice g of what its parameters stand for
+abbrev pub OnceAtEach : {G : Type 2} (n : ℕ) (ps : G → List (ParamKind n)) (r : G → ResultKind n) → ((g : G) → Out n (ps g) (r g)) → Type 2
+OnceAtEach {G} n ps r Post = (g : G) → Once n (ps g) (r g) (Post g)

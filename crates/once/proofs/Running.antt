@@ -1,8 +1,10 @@
 -- The runner and what it is made of: one result, and one content of the buffer that is lent to be written.
 use Prim.Native.Nat.{ℕ}
-use mathlib.Core.Path.{◌≡◌, sym, ◌∙◌}
+use mathlib.Core.Path.{◌≡◌, refl, sym, ◌∙◌}
 use mathlib.Core.List.{List}
+use Rattle.text.specs.declared.Page.{Page}
 use Rattle.text.specs.Put.{Put}
+use Rattle.text.specs.Wrote.{Wrote}
 use Rattle.play.specs.declared.Played.{Played}
 use Rattle.play.specs.Play.{Plays}
 use Rattle.rules.specs.Words.{Machine}
@@ -10,10 +12,10 @@ use Rattle.hand.proofs.number_of.Kinds as hand-number-of-kinds
 use Rattle.hand.proofs.number_of.Reads as hand-number-of-reads
 use Rattle.hand.proofs.turn.Kinds as hand-turn-kinds
 use Rattle.hand.proofs.turn.Reads as hand-turn-reads
-use Rattle.text.proofs.put_row.Kinds as text-put-row-kinds
-use Rattle.text.proofs.put_row.Reads as text-put-row-reads
-use Rattle.text.proofs.put_lettered.Kinds as text-put-lettered-kinds
-use Rattle.text.proofs.put_lettered.Reads as text-put-lettered-reads
+use Rattle.text.proofs.Page.row.Kinds as text-row-kinds
+use Rattle.text.proofs.Page.row.Reads as text-row-reads
+use Rattle.text.proofs.Page.lettered.Kinds as text-lettered-kinds
+use Rattle.text.proofs.Page.lettered.Reads as text-lettered-reads
 use Rattle.lines.proofs.put_answer.Kinds as lines-put-answer-kinds
 use Rattle.lines.proofs.put_answer.Reads as lines-put-answer-reads
 use Rattle.lines.proofs.put_record.Kinds as lines-put-record-kinds
@@ -43,6 +45,13 @@ put_once a b = a.next ∙ sym b.next
 put_lent : {old new also text : List ℕ} {at r q : ℕ} → Put old at text new r → Put old at text also q → new ≡ also
 put_lent a b = a.held ∙ sym b.held
 
+-- what a page holds: its position, and the bytes of its buffer; a text written on it leaves one of each
+abbrev pub held : Page → ℕ × List ℕ
+held p = (p.at, p.out.now)
+
+wrote_lent : {old new also : Page} {text : List ℕ} → Wrote old text new → Wrote old text also → held new ≡ held also
+wrote_lent a b = λ k. (put_once a.put b.put k, put_lent a.put b.put k)
+
 -- events played leave one machine, tally and place
 plays_once : {m : Machine} {es old new also : List ℕ} {count : ℕ} {o p : Played} → Plays m es count old new o → Plays m es count old also p → o ≡ p
 plays_once {o = o} {p = p} a b =
@@ -57,42 +66,43 @@ hand_number_of κs a o p s t e f = e ∙ sym f
 pub hand_turn : Once 0 hand-turn-kinds.ps hand-turn-kinds.r hand-turn-reads.Post
 hand_turn κs a o p s t e f = e ∙ sym f
 
--- two lifetimes: the buffer and the numbers are lent
-pub text_put_row : Once 2 text-put-row-kinds.ps text-put-row-kinds.r text-put-row-reads.Post
-text_put_row κs a o p s t e f = put_once e f
+-- three lifetimes: the page, its buffer and the numbers are lent
+pub text_row : Once 3 text-row-kinds.ps text-row-kinds.r text-row-reads.Post
+text_row κs a o p s t e f = refl
 
-pub text_put_row_lent : OnceLent 2 text-put-row-kinds.ps text-put-row-kinds.r text-put-row-reads.Post (λ κs s. s.0.now)
-text_put_row_lent κs a o p s t e f = put_lent e f
+pub text_row_lent : OnceLent 3 text-row-kinds.ps text-row-kinds.r text-row-reads.Post (λ κs s. held s.0.now)
+text_row_lent κs a o p s t e f = wrote_lent e f
 
-pub text_put_lettered : Once 2 text-put-lettered-kinds.ps text-put-lettered-kinds.r text-put-lettered-reads.Post
-text_put_lettered κs a o p s t e f = put_once e f
+pub text_lettered : Once 3 text-lettered-kinds.ps text-lettered-kinds.r text-lettered-reads.Post
+text_lettered κs a o p s t e f = refl
 
-pub text_put_lettered_lent : OnceLent 2 text-put-lettered-kinds.ps text-put-lettered-kinds.r text-put-lettered-reads.Post (λ κs s. s.0.now)
-text_put_lettered_lent κs a o p s t e f = put_lent e f
+pub text_lettered_lent : OnceLent 3 text-lettered-kinds.ps text-lettered-kinds.r text-lettered-reads.Post (λ κs s. held s.0.now)
+text_lettered_lent κs a o p s t e f = wrote_lent e f
 
-pub lines_put_answer : Once 1 lines-put-answer-kinds.ps lines-put-answer-kinds.r lines-put-answer-reads.Post
-lines_put_answer κs a o p s t e f = put_once e.0 f.0
+-- two lifetimes: the page and its buffer are lent
+pub lines_put_answer : Once 2 lines-put-answer-kinds.ps lines-put-answer-kinds.r lines-put-answer-reads.Post
+lines_put_answer κs a o p s t e f = refl
 
-pub lines_put_answer_lent : OnceLent 1 lines-put-answer-kinds.ps lines-put-answer-kinds.r lines-put-answer-reads.Post (λ κs s. s.0.now)
-lines_put_answer_lent κs a o p s t e f = put_lent e.0 f.0
+pub lines_put_answer_lent : OnceLent 2 lines-put-answer-kinds.ps lines-put-answer-kinds.r lines-put-answer-reads.Post (λ κs s. held s.0.now)
+lines_put_answer_lent κs a o p s t e f = wrote_lent e.0 f.0
 
-pub lines_put_record : Once 1 lines-put-record-kinds.ps lines-put-record-kinds.r lines-put-record-reads.Post
-lines_put_record κs a o p s t e f = put_once e.0 f.0
+pub lines_put_record : Once 2 lines-put-record-kinds.ps lines-put-record-kinds.r lines-put-record-reads.Post
+lines_put_record κs a o p s t e f = refl
 
-pub lines_put_record_lent : OnceLent 1 lines-put-record-kinds.ps lines-put-record-kinds.r lines-put-record-reads.Post (λ κs s. s.0.now)
-lines_put_record_lent κs a o p s t e f = put_lent e.0 f.0
+pub lines_put_record_lent : OnceLent 2 lines-put-record-kinds.ps lines-put-record-kinds.r lines-put-record-reads.Post (λ κs s. held s.0.now)
+lines_put_record_lent κs a o p s t e f = wrote_lent e.0 f.0
 
-pub lines_put_tally : Once 1 lines-put-tally-kinds.ps lines-put-tally-kinds.r lines-put-tally-reads.Post
-lines_put_tally κs a o p s t e f = put_once e f
+pub lines_put_tally : Once 2 lines-put-tally-kinds.ps lines-put-tally-kinds.r lines-put-tally-reads.Post
+lines_put_tally κs a o p s t e f = refl
 
-pub lines_put_tally_lent : OnceLent 1 lines-put-tally-kinds.ps lines-put-tally-kinds.r lines-put-tally-reads.Post (λ κs s. s.0.now)
-lines_put_tally_lent κs a o p s t e f = put_lent e f
+pub lines_put_tally_lent : OnceLent 2 lines-put-tally-kinds.ps lines-put-tally-kinds.r lines-put-tally-reads.Post (λ κs s. held s.0.now)
+lines_put_tally_lent κs a o p s t e f = wrote_lent e f
 
-pub lines_put_refusal : Once 1 lines-put-refusal-kinds.ps lines-put-refusal-kinds.r lines-put-refusal-reads.Post
-lines_put_refusal κs a o p s t e f = put_once e f
+pub lines_put_refusal : Once 2 lines-put-refusal-kinds.ps lines-put-refusal-kinds.r lines-put-refusal-reads.Post
+lines_put_refusal κs a o p s t e f = refl
 
-pub lines_put_refusal_lent : OnceLent 1 lines-put-refusal-kinds.ps lines-put-refusal-kinds.r lines-put-refusal-reads.Post (λ κs s. s.0.now)
-lines_put_refusal_lent κs a o p s t e f = put_lent e f
+pub lines_put_refusal_lent : OnceLent 2 lines-put-refusal-kinds.ps lines-put-refusal-kinds.r lines-put-refusal-reads.Post (λ κs s. held s.0.now)
+lines_put_refusal_lent κs a o p s t e f = wrote_lent e f
 
 -- two lifetimes: the bytes read and the buffer are lent
 pub play_play : Once 2 play-play-kinds.ps play-play-kinds.r play-play-reads.Post

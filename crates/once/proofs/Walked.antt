@@ -8,9 +8,9 @@ use denote.Triple.Entry.{Args, Res}
 use denote.Triple.Clauses.{Ended, AtExit, Clauses}
 use borrow.Fn.World.{World}
 use Rattle.event.specs.Event.{event_at}
-use Rattle.reader.specs.contracts.at as reader-at-contract
-use Rattle.reader.specs.contracts.next_event as reader-next-event-contract
-use Rattle.reader.specs.contracts.advanced as reader-advanced-contract
+use Rattle.reader.specs.contracts.Reader.at as reader-at-contract
+use Rattle.reader.specs.contracts.Reader.next_event as reader-next-event-contract
+use Rattle.reader.specs.contracts.Reader.advanced as reader-advanced-contract
 use Prim.Native.Nat.{◌+◌, ◌%◌}
 
 pub record OnceSaid (E : Ended) (clauses : (w : World) → Clauses w.𝓤 E) : Type 2 where

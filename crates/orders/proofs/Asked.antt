@@ -4,7 +4,7 @@ use mathlib.Core.Path.{◌≡◌, refl, sym, ap, ◌∙◌}
 use native.Mathlib.Omega.{arith}
 use mathlib.Core.Bool.{Bool, true, false, not, true≢false}
 use mathlib.Core.Logic.{◌⊎◌, inl, inr, ◌≢◌, ⊎_elim}
-use Rattle.rules.specs.Words.{Machine, Call, Place, Idle, Check, Passed, Failed, Refusal, Refused, Accepted, Out}
+use Rattle.rules.specs.Words.{Machine, Call, Place, Idle, Check, Ok, Err, Refusal, Refused, Accepted, Out}
 use Rattle.rules.specs.Words.{Ask, AskLlx, AskScx, AskVlx, AskRead, AskStep}
 use Rattle.rules.specs.Places.{is_idle}
 use Rattle.rules.specs.Refuse.{check, rules_of}
@@ -51,5 +51,5 @@ module _ (m : Machine) (calls : ℕ → Call) (R : Run m calls) where
           busy false h n = true≢false (sym h)
 
       go : (c : Check) → check (rules_of (M k) (calls k)) ≡ c → Turn k
-      go Passed q = asked (calls k).ask (record { passed = q; asks = refl })
-      go (Failed why) q = inl (why, ap (λ c. (answered c (M k) (calls k)).answer) q)
+      go (Ok _) q = asked (calls k).ask (record { passed = q; asks = refl })
+      go (Err why) q = inl (why, ap (λ c. (answered c (M k) (calls k)).answer) q)

@@ -6,7 +6,7 @@ use mathlib.Core.Bool.{true, false, true≢false}
 use mathlib.Core.Logic.{◌⊎◌, inl, inr, ⊎_elim, ⊎_map, ◌≢◌}
 use native.Mathlib.Omega.{arith}
 use borrow.Author.Tests.{lt-ltb}
-use Rattle.rules.specs.Words.{Machine, Ask, AskLlx, AskScx, AskVlx, AskRead, AskStep, Call, Check, Passed, Failed, Refusal, Out}
+use Rattle.rules.specs.Words.{Machine, Ask, AskLlx, AskScx, AskVlx, AskRead, AskStep, Call, Check, Ok, Err, Refusal, Out}
 use Rattle.rules.specs.Words.{Place, Idle, L1, L2, L3, L4, L5, L6, L7, L8, L9, L10, L11, H1, H2, H3, H4, H5, H6, H7, H8, Vlx, Read}
 use Rattle.table.specs.Table.{task_at}
 use Rattle.rules.specs.Places.{is_idle}
@@ -64,12 +64,12 @@ own_call m e busy = go (check (rules_of m e)) refl
     asked (AskRead r f) P = started (obeyed m e _ P).1.0
     asked AskStep P = P
 
-    failed : (why : Refusal) → check (rules_of m e) ≡ Failed why → Passes m e AskStep → ⊥
-    failed why h P = let q : Failed why ≡ Passed = sym h ∙ P.passed in let z : ◌≡◌ {A = ℕ} 0 1 = cc in omega arith
+    failed : (why : Refusal) → check (rules_of m e) ≡ Err why → Passes m e AskStep → ⊥
+    failed why h P = let q : Err why ≡ Ok tt = sym h ∙ P.passed in let z : ◌≡◌ {A = ℕ} 0 1 = cc in omega arith
 
     go : (c : Check) → check (rules_of m e) ≡ c → NoStep m e (answered c m e).m ⊎ Passes m e AskStep
-    go Passed h = inr (asked e.ask (record { passed = h; asks = refl }))
-    go (Failed why) h = inl (refl, failed why h)
+    go (Ok _) h = inr (asked e.ask (record { passed = h; asks = refl }))
+    go (Err why) h = inl (refl, failed why h)
 
 -- any call is a step of t that passes, or it is none and leaves t
 abbrev Leaves : Machine → Call → ℕ → Machine → Type 0

@@ -8,13 +8,14 @@ use native.Mathlib.Omega.{arith}
 use lib.Dec.{eqb, ltb}
 use Rattle.rules.specs.Words.{State, InProgress, Committed, Aborted, After, Own, AtL8, AtL11, Change, Machine, Seen, Out, Move}
 use Rattle.rules.specs.Words.{Place, Idle, L1, L2, L3, L4, L5, L6, L7, L8, L9, L10, L11, H1, H2, H3, H4, H5, H6, H7, H8, Vlx, Read}
-use Rattle.rules.specs.Words.{Ask, AskLlx, AskScx, AskVlx, AskRead, AskStep, Call, Check, Passed, Failed}
+use Rattle.rules.specs.Words.{Ask, AskLlx, AskScx, AskVlx, AskRead, AskStep, Call, Check, Ok, Err}
 use Rattle.rules.specs.Words.{Refusal, Accepted, Snapshot, Fail, Yes, Refused}
 use Rattle.table.specs.Table.{pick, task_at, change_at, link_at}
 use Rattle.rules.specs.Places.{change_of, access_of, resume}
 use Rattle.rules.specs.Perform.{record_of, seen}
-use Rattle.rules.specs.Resume.{on, done, snapshot, no_and_drop, verdict, after_l7, after_l10}
-use Rattle.rules.specs.Step.{access_at, move_at, step}
+use Rattle.rules.specs.Words.{On, Done, Store, Unlink}
+use Rattle.rules.specs.Resume.{verdict, after_l7, after_l10}
+use Rattle.rules.specs.Step.{stores_link, answer_of, access_at, move_at, step}
 use Rattle.rules.specs.Start.{filled}
 use Rattle.rules.specs.Refuse.{check, rules, idle_at, linked_at, rules_of}
 use Rattle.rules.specs.Next.{refused, accepted, answered, next}
@@ -27,19 +28,19 @@ use Rattle.orders.proofs.View.{shared, doing, ending, done_by, read_by, did, rea
 
 -- call e passes the rules and asks for ask
 pub record Passes (m : Machine) (e : Call) (ask : Ask) : Type 0 where
-  pub passed : check (rules_of m e) ≡ Passed
+  pub passed : check (rules_of m e) ≡ Ok tt
   pub asks : e.ask ≡ ask
 
 -- what is not refused has passed
-pub not_refused : (m : Machine) (e : Call) → ((why : Refusal) → (next m e).answer ≢ Refused why) → check (rules_of m e) ≡ Passed
+pub not_refused : (m : Machine) (e : Call) → ((why : Refusal) → (next m e).answer ≢ Refused why) → check (rules_of m e) ≡ Ok tt
 unfolding next refused
 not_refused m e = go (check (rules_of m e))
   where
-    go : (c : Check) → ((why : Refusal) → (answered c m e).answer ≢ Refused why) → c ≡ Passed
-    go Passed h = refl
-    go (Failed why) h = absurd (h why refl)
+    go : (c : Check) → ((why : Refusal) → (answered c m e).answer ≢ Refused why) → c ≡ Ok tt
+    go (Ok _) h = refl
+    go (Err why) h = absurd (h why refl)
 
-pub accepts : (m : Machine) (e : Call) → (next m e).answer ≡ Accepted → check (rules_of m e) ≡ Passed
+pub accepts : (m : Machine) (e : Call) → (next m e).answer ≡ Accepted → check (rules_of m e) ≡ Ok tt
 accepts m e h = not_refused m e (λ why q. let z : Accepted ≡ Refused why = sym h ∙ q in let y : ◌≡◌ {A = ℕ} 0 1 = cc in omega arith)
 
 -- and then it is its step or its start
@@ -75,8 +76,8 @@ module _ (m : Machine) (e : Call) where
       asked AskStep P q = step P q
 
       go : (c : Check) → check (rules_of m e) ≡ c → done_by c m e ≡ b → A
-      go Passed q h = asked e.ask (record { passed = q; asks = refl }) h
-      go (Failed why) q h = none h
+      go (Ok _) q h = asked e.ask (record { passed = q; asks = refl }) h
+      go (Err why) q h = none h
 
   pub wrote : (u : ℕ) → did m e ≡ write u → Passes m e AskStep × ((after : After) × ((task_at m e.task).place ≡ H7 u after))
   wrote u = by_act (write u) _ (λ P q. (P, at_h7 (shared m) (task_at m e.task).place u q))
@@ -102,12 +103,12 @@ module _ (m : Machine) (e : Call) where
 
 -- a link is stored at L6 alone, with the snapshot
 abbrev Stores : Place → Move → Type 0
-Stores q v = v.store ≡ true → (r : ℕ) × (m1 : Bool) × (a : ℕ) × (q ≡ L6 r m1 a) × (v ≡ snapshot)
+Stores q v = stores_link v ≡ true → (r : ℕ) × (m1 : Bool) × (a : ℕ) × (q ≡ L6 r m1 a) × (v ≡ Store)
 
-never : {q : Place} {v : Move} → v.store ≡ false → Stores q v
+never : {q : Place} {v : Move} → stores_link v ≡ false → Stores q v
 never e h = absurd (true≢false (sym h ∙ e))
 
-store_verdict : (ok : Bool) (after : After) → (verdict ok after).store ≡ false
+store_verdict : (ok : Bool) (after : After) → stores_link (verdict ok after) ≡ false
 store_verdict true Own = refl
 store_verdict false Own = refl
 store_verdict true (AtL8 r true) = refl
@@ -115,18 +116,18 @@ store_verdict true (AtL8 r false) = refl
 store_verdict false (AtL8 r m1) = refl
 store_verdict ok AtL11 = refl
 
-store_l7 : (r : ℕ) (m1 : Bool) (a : ℕ) (s : State) → (after_l7 r m1 a s).store ≡ false
+store_l7 : (r : ℕ) (m1 : Bool) (a : ℕ) (s : State) → stores_link (after_l7 r m1 a s) ≡ false
 store_l7 r m1 a InProgress = refl
 store_l7 r true a Committed = refl
 store_l7 r false a Committed = refl
 store_l7 r m1 a Aborted = refl
 
-store_l10 : (r : ℕ) (s : State) → (after_l10 r s).store ≡ false
+store_l10 : (r : ℕ) (s : State) → stores_link (after_l10 r s) ≡ false
 store_l10 r InProgress = refl
 store_l10 r Committed = refl
 store_l10 r Aborted = refl
 
-either : (b : Bool) (v w : Move) → v.store ≡ false → w.store ≡ false → (pick b v w).store ≡ false
+either : (b : Bool) (v w : Move) → stores_link v ≡ false → stores_link w ≡ false → stores_link (pick b v w) ≡ false
 either true v w h k = h
 either false v w h k = k
 
@@ -139,36 +140,36 @@ stored_at_l6 (L4 r m1 a x) s ch linked = never refl
 stored_at_l6 (L5 r m1 a f) s ch linked = never refl
 stored_at_l6 (L6 r m1 a) s ch linked = go (eqb s.number a)
   where
-    go : (b : Bool) → Stores (L6 r m1 a) (pick b snapshot (on (L7 r m1 a)))
+    go : (b : Bool) → Stores (L6 r m1 a) (pick b Store (On (L7 r m1 a)))
     go true h = (r, m1, a, refl, refl)
     go false h = absurd (false≢true h)
 stored_at_l6 (L7 r m1 a) s ch linked = never (store_l7 r m1 a s.state)
 stored_at_l6 (L8 r m1 a) s ch linked = never refl
 stored_at_l6 (L9 r) s ch linked = never refl
 stored_at_l6 (L10 r b) s ch linked = never (store_l10 r s.state)
-stored_at_l6 (L11 r) s ch linked = never (either (eqb s.number 0) (done Fail) (on (H1 s.number 0 AtL11)) refl refl)
+stored_at_l6 (L11 r) s ch linked = never (either (eqb s.number 0) (Done Fail) (On (H1 s.number 0 AtL11)) refl refl)
 stored_at_l6 (H1 u i after) s ch linked = never refl
 stored_at_l6 (H2 u i after) s ch linked = never refl
-stored_at_l6 (H3 u after) s ch linked = never (either s.bit (verdict true after) (on (H4 u after)) (store_verdict true after) refl)
+stored_at_l6 (H3 u after) s ch linked = never (either s.bit (verdict true after) (On (H4 u after)) (store_verdict true after) refl)
 stored_at_l6 (H4 u after) s ch linked = never (store_verdict false after)
 stored_at_l6 (H5 u after) s ch linked = never refl
 stored_at_l6 (H6 u i after) s ch linked = never refl
 stored_at_l6 (H7 u after) s ch linked = never refl
 stored_at_l6 (H8 u after) s ch linked = never (store_verdict true after)
-stored_at_l6 (Vlx n i) s ch linked = never (either (eqb s.number linked) (pick (ltb (i + 1) n) (on (Vlx n (i + 1))) (done Yes)) (no_and_drop n)
-    (either (ltb (i + 1) n) (on (Vlx n (i + 1))) (done Yes) refl refl) refl)
+stored_at_l6 (Vlx n i) s ch linked = never (either (eqb s.number linked) (pick (ltb (i + 1) n) (On (Vlx n (i + 1))) (Done Yes)) (Unlink n)
+    (either (ltb (i + 1) n) (On (Vlx n (i + 1))) (Done Yes) refl refl) refl)
 stored_at_l6 (Read r f) s ch linked = never refl
 
 module _ (m : Machine) (e : Call) where
   abbrev pub Snapped : Type 0
   Snapped = Passes m e AskStep × ((r : ℕ) × (m1 : Bool) × (a : ℕ) × ((task_at m e.task).place ≡ L6 r m1 a) × ((reading m e).at ≡ r))
-      × ((next m e).answer ≡ Snapshot)
+      × ((next m e).answer ≡ Snapshot (task_at m e.task).cells)
 
   pub snapped : (reading m e).ends ≡ true → Snapped
   unfolding access_at move_at step
   snapped = go (check (rules_of m e)) refl
     where
-      stepped : Passes m e AskStep → (move_at m e.task).store ≡ true → Snapped
+      stepped : Passes m e AskStep → stores_link (move_at m e.task) ≡ true → Snapped
       stepped P h =
           let x = task_at m e.task in
           let a = access_at m e.task in
@@ -182,7 +183,7 @@ module _ (m : Machine) (e : Call) where
               ap (λ (k : Reading). k.at) (reading_is m e AskStep P)
                   ∙ ap (λ q. record_of (access_of q (change_at m (change_of q)) x.list)) l6,
             ),
-            ap (λ (o : Out). o.answer) (next_is m e AskStep P) ∙ ap (λ (v : Move). v.answer) v,
+            ap (λ (o : Out). o.answer) (next_is m e AskStep P) ∙ ap (answer_of x.cells) v,
           )
 
       asked : (ask : Ask) → Passes m e ask → (ending m e.task ask).ends ≡ true → Snapped
@@ -193,5 +194,5 @@ module _ (m : Machine) (e : Call) where
       asked AskStep P h = stepped P h
 
       go : (c : Check) → check (rules_of m e) ≡ c → (read_by c m e).ends ≡ true → Snapped
-      go Passed c h = asked e.ask (record { passed = c; asks = refl }) h
-      go (Failed why) c h = absurd (false≢true h)
+      go (Ok _) c h = asked e.ask (record { passed = c; asks = refl }) h
+      go (Err why) c h = absurd (false≢true h)

@@ -3,7 +3,7 @@
 use Prim.Native.Nat.{ℕ, suc, ◌+◌, ◌≤◌, ◌<◌}
 use mathlib.Core.Path.{◌≡◌, refl, sym, ap, ◌∙◌, subst}
 use mathlib.Core.Logic.{◌⊎◌, inl, inr, ◌≢◌}
-use Rattle.rules.specs.Words.{Machine, Own, H1, Ask, AskScx, Call, Check, Passed, Failed, Refusal, Refused, Out}
+use Rattle.rules.specs.Words.{Machine, Own, H1, Ask, AskScx, Call, Check, Ok, Err, Refusal, Refused, Out}
 use Rattle.table.specs.Table.{task_at}
 use Rattle.rules.specs.Start.{filled}
 use Rattle.rules.specs.Refuse.{check, rules_of}
@@ -111,7 +111,7 @@ module _ (m : Machine) (calls : ℕ → Call) (R : Run m calls) where
     where
       go : (x : Check) → check (rules_of (M k) (calls k)) ≡ x
           → ((why : Refusal) × ((answered x (M k) (calls k)).answer ≡ Refused why)) ⊎ ((c : Ch) × (c.start ≡ k))
-      go Passed q =
+      go (Ok _) q =
           let (c, s, u) = change_of_lem k ((M k).used + 1) (_, did_is (M k) (calls k) _ (record { passed = q; asks = e })) in
           inr (c, s)
-      go (Failed why) q = inl (why, refl)
+      go (Err why) q = inl (why, refl)

@@ -11,10 +11,10 @@ use lib.ListN.{get_or, set}
 use lib.Seq.{get_or-set_other, set-get_or}
 use lib.Dec.{ltb}
 use borrow.Author.Tests.{ltb-true}
-use Rattle.rules.specs.Words.{Task, Link, Machine, Ask, AskLlx, AskScx, AskVlx, AskRead, AskStep, Call, Check, Passed, Failed}
+use Rattle.rules.specs.Words.{Task, Link, Machine, Ask, AskLlx, AskScx, AskVlx, AskRead, AskStep, Call, Check, Ok, Err}
 use Rattle.table.specs.Table.{pick, no_task, no_link, task_at, link_at, slot}
 use Rattle.rules.specs.Perform.{record_of, seen, perform}
-use Rattle.rules.specs.Step.{link_by, drop_first, settle, access_at, move_at, step}
+use Rattle.rules.specs.Step.{stores_link, drop_of, link_by, drop_first, settle, access_at, move_at, step}
 use Rattle.rules.specs.Start.{start}
 use Rattle.rules.specs.Refuse.{check, rules_of}
 use Rattle.rules.specs.Next.{refused, started, accepted, answered, next}
@@ -78,9 +78,9 @@ module _ (m : Machine) (F : Fine m) where
       let v = move_at m t in
       let link = link_by (link_at m t a) x (seen (access_at m t) m) v in
       let stored = set m.links (slot t a) link in
-      same_link_lem m.p m.n m.links (drop_first stored t x.list v.drop) s r
+      same_link_lem m.p m.n m.links (drop_first stored t x.list (drop_of v)) s r
       (λ q. let r32 : r < 32 = omega (arith, F.n<33) in
-      drop_apart stored t x.list v.drop s r d r32 (list<32 m S t h.0)
+      drop_apart stored t x.list (drop_of v) s r d r32 (list<32 m S t h.0)
       ∙ get_or-set_other m.links (slot t a) (slot s r) link no_link (slots_apart t s a r d (record<32 m S t h.0) r32))
 
 -- THE TASK'S OWN LINKS
@@ -130,7 +130,7 @@ accepted_own m t AskStep l r =
     let x = task_at m t in
     let v = move_at m t in
     let new : Link = record { there = true; info = (seen (access_at m t) m).number; cells = x.cells } in
-    shown (ltb t m.p) (ltb r m.n) (ending m t AskStep) r _ _ (relinked m.links t r new a v.store x.list v.drop)
+    shown (ltb t m.p) (ltb r m.n) (ending m t AskStep) r _ _ (relinked m.links t r new a (stores_link v) x.list (drop_of v))
 
 -- A CALL
 pub tasks_stay : (m : Machine) (e : Call) (s : ℕ) → s ≢ e.task → task_in (next m e).m s ≡ task_in m s
@@ -138,21 +138,21 @@ unfolding next refused
 tasks_stay m e s d = go (check (rules_of m e))
   where
     go : (c : Check) → task_in (answered c m e).m s ≡ task_in m s
-    go Passed = accepted_tasks m e.task e.ask e.list s d
-    go (Failed why) = refl
+    go (Ok _) = accepted_tasks m e.task e.ask e.list s d
+    go (Err why) = refl
 
 pub links_stay : (m : Machine) → Fine m → (e : Call) (s : ℕ) → s ≢ e.task → (r : ℕ) → link_in (next m e).m s r ≡ link_in m s r
 unfolding next rules_of refused
 links_stay m F e s d r = go (check (rules_of m e)) refl
   where
     go : (c : Check) → check (rules_of m e) ≡ c → link_in (answered c m e).m s r ≡ link_in m s r
-    go Passed h = accepted_links m F e.task e.ask e.list (passed (rules_of m e) h).1 s d r
-    go (Failed why) h = refl
+    go (Ok _) h = accepted_links m F e.task e.ask e.list (passed (rules_of m e) h).1 s d r
+    go (Err why) h = refl
 
 pub relinks : (m : Machine) (e : Call) (r : ℕ) → Relinked (reading m e) (link_in m e.task r) r (link_in (next m e).m e.task r)
 unfolding next refused
 relinks m e r = go (check (rules_of m e))
   where
     go : (c : Check) → Relinked (read_by c m e) (link_in m e.task r) r (link_in (answered c m e).m e.task r)
-    go Passed = accepted_own m e.task e.ask e.list r
-    go (Failed why) = inr (inl (refl, λ e. absurd (false≢true e)))
+    go (Ok _) = accepted_own m e.task e.ask e.list r
+    go (Err why) = inr (inl (refl, λ e. absurd (false≢true e)))

@@ -12,12 +12,12 @@ use lib.Seq.{get_or-set_other}
 use lib.Dec.{ltb}
 use borrow.Author.Tests.{ltb-true}
 use Rattle.rules.specs.Words.{Counts, Accepted, Refused}
-use Rattle.rules.specs.Words.{Machine, Record, Task, Link, Idle, AskLlx, AskScx, AskVlx, AskRead, AskStep, Ask, Call, Check, Passed, Failed, Out}
-use Rattle.table.specs.Table.{pick, no_cells, max_records, no_record, no_task, no_link, task_at, slot}
+use Rattle.rules.specs.Words.{Machine, Record, Task, Link, Idle, AskLlx, AskScx, AskVlx, AskRead, AskStep, Ask, Call, Check, Ok, Err, Out}
+use Rattle.table.specs.Table.{pick, max_records, no_record, no_task, no_link, task_at, slot}
 use Rattle.table.proofs.Tabulate.{get_d_tabulate}
 use Rattle.table.specs.Fresh.{idle_task, fresh_record, empty_record, empty_link, fresh_records, fresh_machine, in_range, fresh}
 use Rattle.rules.specs.Perform.{perform, record_of}
-use Rattle.rules.specs.Step.{settle, access_at, move_at, step}
+use Rattle.rules.specs.Step.{stores_link, settle, access_at, move_at, step}
 use Rattle.rules.specs.Start.{start}
 use Rattle.rules.specs.Shape.{shape, in_shape, InShape}
 use Rattle.rules.specs.Refuse.{check, rules_of}
@@ -47,7 +47,7 @@ unfolding next refused started start step settle perform
 same_counts m e = go (check (rules_of m e))
   where
     go : (c : Check) → ((answered c m e).m.p ≡ m.p) × ((answered c m e).m.n ≡ m.n)
-    go Passed = asked e.ask
+    go (Ok _) = asked e.ask
       where
         asked : (ask : Ask) → ((accepted m e.task ask e.list).m.p ≡ m.p) × ((accepted m e.task ask e.list).m.n ≡ m.n)
         asked (AskLlx r) = (refl, refl)
@@ -55,7 +55,7 @@ same_counts m e = go (check (rules_of m e))
         asked (AskVlx n) = (refl, refl)
         asked (AskRead r f) = (refl, refl)
         asked AskStep = (refl, refl)
-    go (Failed why) = (refl, refl)
+    go (Err why) = (refl, refl)
 
 -- a task past P stays as it is: its own calls are refused
 past_stays : (m : Machine) (e : Call) (t : ℕ) → m.p ≤ t → task_at (next m e).m t ≡ task_at m t
@@ -73,8 +73,8 @@ past_stays m e t h = go (check (rules_of m e)) refl
     asked AskStep P = get_or-set_other m.tasks e.task t _ no_task (other (obeyed m e _ P).0)
 
     go : (c : Check) → check (rules_of m e) ≡ c → task_at (answered c m e).m t ≡ task_at m t
-    go Passed q = asked e.ask (record { passed = q; asks = refl })
-    go (Failed why) q = refl
+    go (Ok _) q = asked e.ask (record { passed = q; asks = refl })
+    go (Err why) q = refl
 
 module _ (p n : ℕ) (values : List ℕ) (ok : in_range p n (length values) ≡ true) where
   abbrev from : Machine
@@ -85,8 +85,8 @@ module _ (p n : ℕ) (values : List ℕ) (ok : in_range p n (length values) ≡ 
   fresh_is = ap (λ b. (by b).m) ok
     where
       by : Bool → Out
-      by b = pick b (record { m = fresh_machine p n (fresh_records n values); answer = Accepted; cells = no_cells })
-          (record { m = fresh_machine 0 0 (replicate max_records empty_record); answer = Refused Counts; cells = no_cells })
+      by b = pick b (record { m = fresh_machine p n (fresh_records n values); answer = Accepted })
+          (record { m = fresh_machine 0 0 (replicate max_records empty_record); answer = Refused Counts })
 
   fresh_shaped : InShape from
   unfolding in_shape InShape
@@ -196,9 +196,9 @@ module _ (p n : ℕ) (values : List ℕ) (ok : in_range p n (length values) ≡ 
     goes_to k AskStep P = let h = (obeyed (M k) (calls k) _ P).0 in
         place_after k _ P h _ (steps_to (M k) (fine (M k) (in_shape_lem k)) (sized k) (calls k).task h)
 
-    snapshots : (k : ℕ) → Passes (M k) (calls k) AskStep → (move_at (M k) (calls k).task).store ≡ true
+    snapshots : (k : ℕ) → Passes (M k) (calls k) AskStep → stores_link (move_at (M k) (calls k).task) ≡ true
         → ((link_in (M (suc k)) (calls k).task (record_of (access_at (M k) (calls k).task))).there ≡ true)
-        × ((link_in (M (suc k)) (calls k).task (record_of (access_at (M k) (calls k).task))).cells ≡ (next (M k) (calls k)).cells)
+        × ((link_in (M (suc k)) (calls k).task (record_of (access_at (M k) (calls k).task))).cells ≡ (task_at (M k) (calls k).task).cells)
     unfolding before step
     snapshots k P e =
         let t = (calls k).task in
@@ -206,7 +206,7 @@ module _ (p n : ℕ) (values : List ℕ) (ok : in_range p n (length values) ≡ 
         let q = next_is (M k) (calls k) AskStep P in
         let link = ap (λ (o : Out). link_in o.m t r) q ∙ stores (M k) (fine (M k) (in_shape_lem k)) (sized k) t (obeyed (M k) (calls k) AskStep P).0 e in (
           ap (λ (l : Link). l.there) link,
-          ap (λ (l : Link). l.cells) link ∙ ap (λ b. pick b (task_at (M k) t).cells no_cells) (sym e) ∙ ap (λ (o : Out). o.cells) (sym q),
+          ap (λ (l : Link). l.cells) link,
         )
 
     -- EVERY RUN FROM A FRESH TABLE

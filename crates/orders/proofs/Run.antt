@@ -8,7 +8,7 @@ use Rattle.rules.specs.Words.{Machine, Task, Idle, Ask, AskStep, Call}
 use Rattle.table.specs.Table.{no_record, no_task, record_at, task_at, link_at}
 use Rattle.rules.specs.Places.{change_of}
 use Rattle.rules.specs.Perform.{record_of}
-use Rattle.rules.specs.Step.{access_at, move_at}
+use Rattle.rules.specs.Step.{stores_link, access_at, move_at}
 use Rattle.rules.specs.Next.{next}
 use Rattle.keeps.proofs.Fine.{Fine}
 use Rattle.clauses.proofs.Updates.{leb_case}
@@ -38,10 +38,10 @@ pub record Run (m : Machine) (calls : ℕ → Call) : Type 0 where
   pub idle : (t : ℕ) → (task_at (before next m calls 0) t).place ≡ Idle
   pub past : (k t : ℕ) → m.p ≤ t → (task_at (before next m calls k) t).place ≡ Idle
   -- a snapshot stores a link, and its cells are the snapshot's
-  pub snapshots : (k : ℕ) → Passes (before next m calls k) (calls k) AskStep → (move_at (before next m calls k) (calls k).task).store ≡ true
+  pub snapshots : (k : ℕ) → Passes (before next m calls k) (calls k) AskStep → stores_link (move_at (before next m calls k) (calls k).task) ≡ true
       → ((link_in (before next m calls (suc k)) (calls k).task (record_of (access_at (before next m calls k) (calls k).task))).there ≡ true)
       × ((link_in (before next m calls (suc k)) (calls k).task (record_of (access_at (before next m calls k) (calls k).task))).cells
-      ≡ (next (before next m calls k) (calls k)).cells)
+      ≡ (task_at (before next m calls k) (calls k).task).cells)
   pub goes_to : (k : ℕ) (ask : Ask) → Passes (before next m calls k) (calls k) ask
       → (task_at (before next m calls (suc k)) (calls k).task).place ≡ leads_to (before next m calls k) (calls k).task ask
 

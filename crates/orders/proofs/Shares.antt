@@ -5,7 +5,7 @@ use mathlib.Core.Path.{◌≡◌, refl}
 use mathlib.Core.Bool.{Bool}
 use mathlib.Core.List.{List}
 use lib.ListN.{get_or, length}
-use Rattle.rules.specs.Words.{Cell, Machine, Ask, AskLlx, AskScx, AskVlx, AskRead, AskStep, Call, Check, Passed, Failed}
+use Rattle.rules.specs.Words.{Cell, Machine, Ask, AskLlx, AskScx, AskVlx, AskRead, AskStep, Call, Check, Ok, Err}
 use Rattle.rules.specs.Words.{Place, Idle, L1, L2, L3, L4, L5, L6, L7, L8, L9, L10, L11, H1, H2, H3, H4, H5, H6, H7, H8, Vlx, Read}
 use Rattle.table.specs.Table.{record_at, change_at, task_at, link_at}
 use Rattle.rules.specs.Perform.{perform}
@@ -81,5 +81,5 @@ unfolding next rules_of refused apply
 shares m F Z e = go (check (rules_of m e)) refl
   where
     go : (c : Check) → check (rules_of m e) ≡ c → shared (answered c m e).m ≡ apply (done_by c m e) (shared m)
-    go Passed h = by_accepted m F Z e.task e.ask e.list (passed (rules_of m e) h).1
-    go (Failed why) h = refl
+    go (Ok _) h = by_accepted m F Z e.task e.ask e.list (passed (rules_of m e) h).1
+    go (Err why) h = refl

@@ -5,9 +5,10 @@ use mathlib.Core.Bool.{true, false≢true}
 use mathlib.Core.Logic.{◌≢◌, ⊎_elim}
 use native.Mathlib.Omega.{arith}
 use native.Mathlib.Nat.{le_refl}
-use Rattle.rules.specs.Words.{Machine, Task, Out}
+use mathlib.Core.List.{List}
+use Rattle.rules.specs.Words.{Cell, Machine, Task, Out}
 use Rattle.rules.specs.Words.{Place, Idle, L1}
-use Rattle.rules.specs.Words.{Ask, AskLlx, AskScx, AskVlx, AskRead, AskStep, Call, Check, Passed, Failed}
+use Rattle.rules.specs.Words.{Ask, AskLlx, AskScx, AskVlx, AskRead, AskStep, Call, Check, Ok, Err}
 use Rattle.rules.specs.Words.{Snapshot}
 use Rattle.table.specs.Table.{cell_at, task_at}
 use Rattle.rules.specs.Perform.{record_of}
@@ -39,9 +40,13 @@ module _ (m : Machine) (calls : ℕ → Call) (R : Run m calls) where
   abbrev C : Course
   C = course m calls R
 
-  -- after call e, t has a link to r with the cells that e answers
+  -- the cells that the task of call e has then, which a snapshot tells
+  abbrev told : ℕ → List Cell
+  told e = (task_at (M e) (calls e).task).cells
+
+  -- after call e, t has a link to r with them
   abbrev LinkAt : ℕ → ℕ → ℕ → Type 0
-  LinkAt e t r = ((link_in (M (suc e)) t r).there ≡ true) × ((link_in (M (suc e)) t r).cells ≡ (next (M e) (calls e)).cells)
+  LinkAt e t r = ((link_in (M (suc e)) t r).there ≡ true) × ((link_in (M (suc e)) t r).cells ≡ told e)
 
   abbrev at : ℕ → ℕ → ℕ
   at k t = of (place next m calls k t)
@@ -88,8 +93,8 @@ module _ (m : Machine) (calls : ℕ → Call) (R : Run m calls) where
     own e = go (check (rules_of (M k) (calls k))) refl refl
       where
         go : (c : Check) → check (rules_of (M k) (calls k)) ≡ c → task_at (answered c (M k) (calls k)).m t ≡ task_at (M (suc k)) t → Began
-        go Passed c s = asked e (calls k).ask (record { passed = c; asks = refl })
-        go (Failed why) c s = absurd (d (ap (λ (x : Task). of x.place) s ∙ h))
+        go (Ok _) c s = asked e (calls k).ask (record { passed = c; asks = refl })
+        go (Err why) c s = absurd (d (ap (λ (x : Task). of x.place) s ∙ h))
 
     by_start : Began
     by_start = ⊎_elim own others (same? t (calls k).task)
@@ -106,11 +111,11 @@ module _ (m : Machine) (calls : ℕ → Call) (R : Run m calls) where
       (same? (at k t) (suc r))
 
   -- a snapshot is answered at L6, where the link is stored
-  at_l6 : (k : ℕ) → said next m calls k ≡ Snapshot → (reading (M k) (calls k)).ends ≡ true
+  at_l6 : (k : ℕ) (cs : List Cell) → said next m calls k ≡ Snapshot cs → (reading (M k) (calls k)).ends ≡ true
   unfolding next refused started step move_at
-  at_l6 k h = go (check (rules_of (M k) (calls k))) refl h
+  at_l6 k cs h = go (check (rules_of (M k) (calls k))) refl h
     where
-      answers : (ask : Ask) → Passes (M k) (calls k) ask → (accepted (M k) (calls k).task ask (calls k).list).answer ≡ Snapshot
+      answers : (ask : Ask) → Passes (M k) (calls k) ask → (accepted (M k) (calls k).task ask (calls k).list).answer ≡ Snapshot cs
       answers ask P = sym (ap (λ (o : Out). o.answer) (next_is (M k) (calls k) ask P)) ∙ h
 
       asked : (ask : Ask) → Passes (M k) (calls k) ask → (reading (M k) (calls k)).ends ≡ true
@@ -119,11 +124,11 @@ module _ (m : Machine) (calls : ℕ → Call) (R : Run m calls) where
       asked (AskVlx n) P = absurd (false≢true (ap is_snapshot (answers _ P)))
       asked (AskRead r f) P = absurd (false≢true (ap is_snapshot (answers _ P)))
       asked AskStep P = ap (λ (x : Reading). x.ends) (reading_is (M k) (calls k) AskStep P)
-          ∙ sym (moves (place next m calls k (calls k).task) _ _ _).1 ∙ ap is_snapshot (answers AskStep P)
+          ∙ sym ((moves (place next m calls k (calls k).task) _ _ _).1 (told k)) ∙ ap is_snapshot (answers AskStep P)
 
-      go : (c : Check) → check (rules_of (M k) (calls k)) ≡ c → (answered c (M k) (calls k)).answer ≡ Snapshot → (reading (M k) (calls k)).ends ≡ true
-      go Passed c s = asked (calls k).ask (record { passed = c; asks = refl })
-      go (Failed why) c s = absurd (false≢true (ap is_snapshot s))
+      go : (c : Check) → check (rules_of (M k) (calls k)) ≡ c → (answered c (M k) (calls k)).answer ≡ Snapshot cs → (reading (M k) (calls k)).ends ≡ true
+      go (Ok _) c s = asked (calls k).ask (record { passed = c; asks = refl })
+      go (Err why) c s = absurd (false≢true (ap is_snapshot s))
 
   -- the link that it stores, with the cells that it answers
   stored : (e t r : ℕ) → Ends C e t r → LinkAt e t r
@@ -135,7 +140,7 @@ module _ (m : Machine) (calls : ℕ → Call) (R : Run m calls) where
       subst (λ r. LinkAt e t r) at-r (subst (λ t. LinkAt e t (record_of (access_at (M e) (calls e).task))) E.by (R.snapshots e P store))
 
   -- nobody has taken hold since, so they are those of the record
-  tells : (e t r : ℕ) → Ends C e t r → (f : ℕ) → f < 4 → cell_at (next (M e) (calls e)).cells f ≡ (S C (suc e)).cell r f
+  tells : (e t r : ℕ) → Ends C e t r → (f : ℕ) → f < 4 → cell_at (told e) f ≡ (S C (suc e)).cell r f
   tells e t r E f l =
       let (there, cells) = stored e t r E in
       let (j, A) = read_at C (suc e) t r there in
@@ -172,6 +177,7 @@ module _ (m : Machine) (calls : ℕ → Call) (R : Run m calls) where
         starts = B;
         going = g;
         steps = passed_steps m calls R k P;
+        cells = told k;
         answer = answer;
         tells = λ f l. tells k (calls k).task r (record { by = refl; ends = h; of = e }) f l ∙ still k h r f
             ∙ cell_is m calls R k r f (record_inside s _ r B);
@@ -180,8 +186,8 @@ module _ (m : Machine) (calls : ℕ → Call) (R : Run m calls) where
   pub snap_of : (k t r : ℕ) → (calls k).task ≡ t → (reading (M k) (calls k)).ends ≡ true → (reading (M k) (calls k)).at ≡ r → Snap next m calls k t r
   snap_of k t r w h e = subst (λ t. Snap next m calls k t r) w (subst (λ r. Snap next m calls k (calls k).task r) e (snap_at k h))
 
-  pub is_a_read : (k : ℕ) → said next m calls k ≡ Snapshot → (r : ℕ) × Snap next m calls k (calls k).task r
-  is_a_read k h = ((reading (M k) (calls k)).at, snap_at k (at_l6 k h))
+  pub is_a_read : (k : ℕ) (cells : List Cell) → said next m calls k ≡ Snapshot cells → (r : ℕ) × Snap next m calls k (calls k).task r
+  is_a_read k cells h = ((reading (M k) (calls k)).at, snap_at k (at_l6 k cells h))
 
   -- a task has one LLX at a time: a start is of an idle task
   from_idle : (s t r : ℕ) → Starts next m calls s t (AskLlx r) → is_idle (place next m calls s t) ≡ true
@@ -198,6 +204,6 @@ module _ (m : Machine) (calls : ℕ → Call) (R : Run m calls) where
 
   pub read_is : (k t r : ℕ) → Snap next m calls k t r → ((calls k).task ≡ t) × ((reading (M k) (calls k)).ends ≡ true) × ((reading (M k) (calls k)).at ≡ r)
   read_is k t r B =
-      let h = at_l6 k B.answer in
+      let h = at_l6 k B.cells B.answer in
       let A = snap_of k t _ B.steps.by h refl in
       (B.steps.by, h, one_read k t _ r (A.start, A.starts, A.going) (B.start, B.starts, B.going))

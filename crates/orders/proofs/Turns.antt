@@ -10,7 +10,7 @@ use lib.ListN.{get_or}
 use lib.Dec.{eqb, ltb}
 use borrow.Author.Tests.{eqb-false, not-true, lt-ltb}
 use Rattle.rules.specs.Words.{Cell, Place, Task, Link, Machine}
-use Rattle.rules.specs.Words.{Ask, AskLlx, AskScx, AskVlx, AskRead, AskStep, Call, Check, Passed, Failed}
+use Rattle.rules.specs.Words.{Ask, AskLlx, AskScx, AskVlx, AskRead, AskStep, Call, Check, Ok, Err}
 use Rattle.table.specs.Table.{pick, cell_at, change_at, task_at, link_at}
 use Rattle.table.proofs.Tabulate.{get_d_tabulate}
 use Rattle.rules.specs.Places.{change_of}
@@ -145,8 +145,8 @@ module _ (m : Machine) (F : Fine m) (Z : Sized m) (G : Ghost) (K : Clauses (view
   known e = go (check (rules_of m e)) refl
     where
       go : (c : Check) → check (rules_of m e) ≡ c → Known e.task (done_by c m e) (read_by c m e) (answered c m e).m
-      go Passed h = accepted_known e.task e.ask e.list (passed (rules_of m e) h).1
-      go (Failed why) h = refused_known e.task
+      go (Ok _) h = accepted_known e.task e.ask e.list (passed (rules_of m e) h).1
+      go (Err why) h = refused_known e.task
 
   pub turn_of_lem : (e : Call) → Turn (view m) (view (next m e).m) G e.task (did m e) (reading m e)
   turn_of_lem e =

@@ -5,10 +5,10 @@ use mathlib.Core.Bool.{false}
 use mathlib.Core.List.{List}
 use lib.Dec.{ltb}
 use Rattle.rules.specs.Words.{Place, L1, H1, Own, Vlx, Read}
-use Rattle.rules.specs.Words.{Record, Task, Link, Machine, Ask, AskLlx, AskScx, AskVlx, AskRead, AskStep, Call, Check, Passed, Failed}
+use Rattle.rules.specs.Words.{Record, Task, Link, Machine, Ask, AskLlx, AskScx, AskVlx, AskRead, AskStep, Call, Check, Ok, Err}
 use Rattle.table.specs.Table.{pick, no_record, no_task, no_link, task_at, link_at}
 use Rattle.rules.specs.Perform.{record_of}
-use Rattle.rules.specs.Step.{access_at, move_at}
+use Rattle.rules.specs.Step.{place_of, stores_link, access_at, move_at}
 use Rattle.rules.specs.Start.{filled}
 use Rattle.rules.specs.Refuse.{check, rules_of}
 use Rattle.clauses.proofs.Memory.{Shared, Table, Act, nop, make}
@@ -47,15 +47,15 @@ ending m t (AskLlx r) = no_reading
 ending m t (AskScx n r written field new) = no_reading
 ending m t (AskVlx n) = no_reading
 ending m t (AskRead r f) = no_reading
-ending m t AskStep = record { ends = (move_at m t).store; at = record_of (access_at m t) }
+ending m t AskStep = record { ends = stores_link (move_at m t); at = record_of (access_at m t) }
 
 abbrev pub done_by : Check → Machine → Call → Act
-done_by Passed m e = doing m e.task e.ask e.list
-done_by (Failed why) m e = nop
+done_by (Ok _) m e = doing m e.task e.ask e.list
+done_by (Err why) m e = nop
 
 abbrev pub read_by : Check → Machine → Call → Reading
-read_by Passed m e = ending m e.task e.ask
-read_by (Failed why) m e = no_reading
+read_by (Ok _) m e = ending m e.task e.ask
+read_by (Err why) m e = no_reading
 
 -- the same of any call: a refused one does nothing
 abbrev pub did : Machine → Call → Act
@@ -70,4 +70,4 @@ leads_to m t (AskLlx r) = L1 r
 leads_to m t (AskScx n r written field new) = H1 (m.used + 1) 0 Own
 leads_to m t (AskVlx n) = Vlx n 0
 leads_to m t (AskRead r f) = Read r f
-leads_to m t AskStep = (move_at m t).place
+leads_to m t AskStep = place_of (move_at m t)

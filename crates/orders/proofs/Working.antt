@@ -8,7 +8,7 @@ use Rattle.rules.specs.Words.{Cell, After, Machine, Place, AskStep, Accepted, Ta
 use Rattle.table.specs.Table.{change_at, task_at, link_at}
 use Rattle.rules.specs.Places.{change_of, is_idle}
 use Rattle.rules.specs.Perform.{record_of, seen}
-use Rattle.rules.specs.Step.{access_at, move_at, step}
+use Rattle.rules.specs.Step.{place_of, answer_of, access_at, move_at, step}
 use Rattle.rules.specs.Next.{next}
 use Rattle.clauses.proofs.Updates.{tf}
 use Rattle.clauses.proofs.Memory.{Shared}
@@ -72,11 +72,11 @@ module _ (m : Machine) (calls : ℕ → Call) (R : Run m calls) where
 
   -- the step's move, as the run shows it
   pub moved : (k t : ℕ) → Steps next m calls k t
-      → (place next m calls (suc k) t ≡ (move_at (M k) t).place) × (said next m calls k ≡ (move_at (M k) t).answer)
+      → (place next m calls (suc k) t ≡ place_of (move_at (M k) t)) × (said next m calls k ≡ answer_of (task_at (M k) t).cells (move_at (M k) t))
   unfolding step
   moved k t P = let Q = step_passes m calls R k t P in (
-    subst (λ t. place next m calls (suc k) t ≡ (move_at (M k) t).place) P.by (R.goes_to k AskStep Q),
-    ap (λ (o : Out). o.answer) (next_is (M k) (calls k) AskStep Q) ∙ ap (λ t. (move_at (M k) t).answer) P.by,
+    subst (λ t. place next m calls (suc k) t ≡ place_of (move_at (M k) t)) P.by (R.goes_to k AskStep Q),
+    ap (λ (o : Out). o.answer) (next_is (M k) (calls k) AskStep Q) ∙ ap (λ t. answer_of (task_at (M k) t).cells (move_at (M k) t)) P.by,
   )
 
   finish : (k t u : ℕ) (after : After) → Steps next m calls k t → Works u after (place next m calls k t)
@@ -86,8 +86,8 @@ module _ (m : Machine) (calls : ℕ → Call) (R : Run m calls) where
       let s = seen (access_at (M k) t) (M k) in
       let tl = subst (λ t. t < (M k).p) P.by (obeyed (M k) (calls k) _ (step_passes m calls R k t P)).0 in
       ⊎_elim (λ h. inl h)
-      (λ (h : (v : Bool) × Brings u after s.bit (place next m calls k t) v × ((move_at (M k) t).place ≡ leads after v)
-      × ((move_at (M k) t).answer ≡ answers after v)).
+      (λ (h : (v : Bool) × Brings u after s.bit (place next m calls k t) v × (place_of (move_at (M k) t) ≡ leads after v)
+      × ((cs : List Cell) → answer_of cs (move_at (M k) t) ≡ answers after v)).
       inr (h.0, sees (S C k) s u after _ h.0 (saw (M k) (R.shaped k) t tl) h.1, h.2, h.3))
       (finishing u after (place next m calls k t) W s (change_at (M k) (change_of (place next m calls k t)))
       (link_at (M k) t (record_of (access_at (M k) t))).info)
@@ -104,7 +104,7 @@ module _ (m : Machine) (calls : ℕ → Call) (R : Run m calls) where
   -- a step of a task that works on u
   by_step : (k t u : ℕ) (after : After) → Steps next m calls k t → Works u after (place next m calls k t)
       → Finishing u after (change_at (M k) u).frozen (place next m calls k t) (move_at (M k) t) → GoingOn k t u after ⊎ Done k t u
-  by_step k t u after P W (inl (w, a)) = inl (subst (λ q. Works u after q) (sym (moved k t P).0) w, λ Q. (moved k t P).1 ∙ a)
+  by_step k t u after P W (inl (w, a)) = inl (subst (λ q. Works u after q) (sym (moved k t P).0) w, λ Q. (moved k t P).1 ∙ a _)
   by_step k t u after P W (inr (v, B, q, a)) =
       let (c, e, D) = change_at_lem m calls R k u (worked_on k t u after W) in
       inr (
@@ -119,7 +119,7 @@ module _ (m : Machine) (calls : ℕ → Call) (R : Run m calls) where
             after = after;
             steps = P;
             brings = subst (λ u. Brings u after (change_at (M k) u).frozen (place next m calls k t) v) (sym e) B;
-            ends = ((moved k t P).0 ∙ q, (moved k t P).1 ∙ a);
+            ends = ((moved k t P).0 ∙ q, (moved k t P).1 ∙ a _);
           },
         ),
       )

@@ -129,8 +129,9 @@ module _ (next : Machine → Call → Out) (m : Machine) (calls : ℕ → Call) 
     pub starts : Starts start t (AskLlx r)
     pub going : Going start t k
     pub steps : Steps k t
-    pub answer : said k ≡ Snapshot
-    pub tells : (f : ℕ) → f < 4 → cell_at (next (before k) (calls k)).cells f ≡ cell k r f
+    pub cells : List Cell
+    pub answer : said k ≡ Snapshot cells
+    pub tells : (f : ℕ) → f < 4 → cell_at cells f ≡ cell k r f
 
   -- THE LINKED READ of r for c ended at e: the task's last snapshot of r before the start, whose link stands until then
   pub record LinkedRead (c : Change) (r e : ℕ) : Type 0 where
@@ -176,7 +177,7 @@ module _ (next : Machine → Call → Out) (m : Machine) (calls : ℕ → Call) 
     pub is_a_change : (k n closing written field new : ℕ) → (calls k).ask ≡ AskScx n closing written field new
         → ((why : Refusal) × (said k ≡ Refused why)) ⊎ ((c : Change) × (c.start ≡ k))
     -- every snapshot ends an LLX
-    pub is_a_read : (k : ℕ) → said k ≡ Snapshot → (r : ℕ) × Snap k (calls k).task r
+    pub is_a_read : (k : ℕ) (cells : List Cell) → said k ≡ Snapshot cells → (r : ℕ) × Snap k (calls k).task r
     -- "A change that takes effect alters its one field exactly once": one effect at most, to the new value with the change's number
     pub once : (c : Change) (j k : ℕ) → Effect c j → Effect c k → j ≡ k
     pub alters_its_field : (c : Change) (k : ℕ) → Effect c k → cell (suc k) (spot c) c.field ≡ record { value = c.new; stamp = c.number }

@@ -25,7 +25,7 @@ told_in m es i =
     record { operation = operation_of (task_at (turns_to m es i) ((event_at es i).task % 8)).place; answer = (turn_at m es i).answer }
 
 unfoldable pub line_in : Machine → List ℕ → ℕ → List ℕ
-line_in m es i = answer_line (i + 1) (event_at es i).task (turn_at m es i).answer (turn_at m es i).cells
+line_in m es i = answer_line (i + 1) (event_at es i).task (turn_at m es i).answer
 
 -- what the first count events leave: the machine, the tally, and their lines at the front of the buffer, at most 42 bytes each
 pub record Plays (m : Machine) (es : List ℕ) (count : ℕ) (old new : List ℕ) (o : Played) : Type 0 where

@@ -1,136 +1,116 @@
 // The refusals of a call from 11 on, in the order of their numbers, on small values.
 #![tactic(auto)]
 
-ghost use Rattle.std.specs.Prelude.{◌≡◌, false, [], ltb};
-ghost use Rattle.rules.specs.Words.{AskLlx, AskScx, AskVlx, AskRead, AskStep, Failed};
-ghost use Rattle.table.specs.Table.{pick};
+ghost use Rattle.std.specs.Prelude.{◌≡◌, [], ltb};
+ghost use Rattle.rules.specs.Words.{AskLlx, AskScx, AskVlx, AskRead, AskStep};
 ghost use Rattle.rules.specs.Claim.{both, test};
 ghost use Rattle.rules.specs.Shape.{in_list};
 ghost use Rattle.rules.specs.Start.{places};
 ghost use Rattle.rules.specs.Refuse.{inside, listed, check, rules};
 ghost use Rattle.refuse.specs.Linked.{linked_by};
 
-use table::{Ask, Call, Check, Link, List, Machine, Refusal};
+use table::{Ask, Call, Link, List, Machine, Refusal};
+
+// What the refusals of a call depend on of the table: P, N, the used count, whether the task is idle, and whether it has a link to
+// each record of the call's list.
+#[derive(Clone, Copy)]
+pub struct Known {
+    pub p: u8,
+    pub n: u8,
+    pub used: u8,
+    pub idle: bool,
+    pub linked: bool,
+}
 
 // Whether R names only places below n.
+#[tactic(auto, unfolding(rules::specs::Claim::both))]
 fn set_inside(n: u8, r: u8) -> bool
     ensures { result ≡ both (ltb r 16) (test 0 (in_list n (places r))) }
 {
-    if r < 16 {
-        lists::in_list(n, lists::places(r))
-    } else {
-        false
-    }
+    r < 16 && lists::in_list(n, lists::places(r))
 }
 
+#[tactic(auto, unfolding(rules::specs::Claim::both))]
 fn inside(n: u8, r: u8, written: u8, field: u8) -> bool
     ensures { result ≡ test 0 (inside n r written field) }
 {
-    if written < n {
-        if set_inside(n, r) {
-            (field as usize) < Machine::FIELDS
-        } else {
-            false
-        }
-    } else {
-        false
+    written < n && (set_inside(n, r) && (field as usize) < Machine::FIELDS)
+}
+
+// The rules of each kind of call, in the order of the refusals.
+impl Known {
+    fn llx(self, t: u8, r: u8) -> Result<(), Refusal>
+        ensures { result ≡ check (rules self.p self.n self.used self.idle self.linked t (AskLlx r) []) }
+    {
+        Refusal::NoSuchTask.unless(t < self.p)?;
+        Refusal::TaskBusy.unless(self.idle)?;
+        Refusal::NoSuchRecord.unless(r < self.n)?;
+        Ok(())
+    }
+
+    fn scx(self, t: u8, k: u8, r: u8, written: u8, field: u8, list: List) -> Result<(), Refusal>
+        ensures { result ≡ check (rules self.p self.n self.used self.idle self.linked t (AskScx k r written field 0) list) }
+    {
+        Refusal::NoSuchTask.unless(t < self.p)?;
+        Refusal::TaskBusy.unless(self.idle)?;
+        Refusal::ListLength.unless(lists::length_fine(k))?;
+        Refusal::NoSuchRecord.unless(lists::exist(self.n, k, list))?;
+        Refusal::RecordTwice.unless(lists::apart(k, list))?;
+        Refusal::PlaceOrField.unless(inside(k, r, written, field))?;
+        Refusal::NoLink.unless(self.linked)?;
+        Refusal::NumbersUsed.unless((self.used as usize) < Machine::CHANGES)?;
+        Ok(())
+    }
+
+    fn vlx(self, t: u8, k: u8, list: List) -> Result<(), Refusal>
+        ensures { result ≡ check (rules self.p self.n self.used self.idle self.linked t (AskVlx k) list) }
+    {
+        Refusal::NoSuchTask.unless(t < self.p)?;
+        Refusal::TaskBusy.unless(self.idle)?;
+        Refusal::ListLength.unless(lists::length_fine(k))?;
+        Refusal::NoSuchRecord.unless(lists::exist(self.n, k, list))?;
+        Refusal::RecordTwice.unless(lists::apart(k, list))?;
+        Refusal::NoLink.unless(self.linked)?;
+        Ok(())
+    }
+
+    fn read(self, t: u8, r: u8, f: u8) -> Result<(), Refusal>
+        ensures { result ≡ check (rules self.p self.n self.used self.idle self.linked t (AskRead r f) []) }
+    {
+        Refusal::NoSuchTask.unless(t < self.p)?;
+        Refusal::TaskBusy.unless(self.idle)?;
+        Refusal::NoSuchRecord.unless(r < self.n)?;
+        Refusal::PlaceOrField.unless((f as usize) < Machine::FIELDS)?;
+        Ok(())
+    }
+
+    fn step(self, t: u8) -> Result<(), Refusal>
+        ensures { result ≡ check (rules self.p self.n self.used self.idle self.linked t AskStep []) }
+    {
+        Refusal::NoSuchTask.unless(t < self.p)?;
+        Refusal::TaskIdle.unless(!self.idle)?;
+        Ok(())
     }
 }
 
-// What comes next where a rule is kept, else its refusal. The rules of a call are joined from the last to the first.
-fn unless(why: Refusal, kept: bool, next: Check) -> Check
-    ensures { result ≡ pick kept next (Failed why) }
-{
-    if kept { next } else { Check::Failed { why } }
-}
-
-fn of_llx(p: u8, n: u8, idle: bool, t: u8, r: u8) -> Check
-    ensures { result ≡ check (rules p n 0 idle false t (AskLlx r) []) }
-{
-    let c15 = unless(Refusal::NoSuchRecord, r < n, Check::Passed);
-    let c12 = unless(Refusal::TaskBusy, idle, c15);
-    unless(Refusal::NoSuchTask, t < p, c12)
-}
-
-fn of_scx(
-    p: u8,
-    n: u8,
-    used: u8,
-    idle: bool,
-    linked: bool,
-    t: u8,
-    k: u8,
-    r: u8,
-    written: u8,
-    field: u8,
-    list: List,
-) -> Check
-    ensures { result ≡ check (rules p n used idle linked t (AskScx k r written field 0) list) }
-{
-    let c19 = unless(
-        Refusal::NumbersUsed,
-        (used as usize) < Machine::CHANGES,
-        Check::Passed,
-    );
-    let c18 = unless(Refusal::NoLink, linked, c19);
-    let c17 = unless(Refusal::PlaceOrField, inside(k, r, written, field), c18);
-    let c16 = unless(Refusal::RecordTwice, lists::apart(k, list), c17);
-    let c15 = unless(Refusal::NoSuchRecord, lists::exist(n, k, list), c16);
-    let c14 = unless(Refusal::ListLength, lists::length_fine(k), c15);
-    let c12 = unless(Refusal::TaskBusy, idle, c14);
-    unless(Refusal::NoSuchTask, t < p, c12)
-}
-
-fn of_vlx(p: u8, n: u8, idle: bool, linked: bool, t: u8, k: u8, list: List) -> Check
-    ensures { result ≡ check (rules p n 0 idle linked t (AskVlx k) list) }
-{
-    let c18 = unless(Refusal::NoLink, linked, Check::Passed);
-    let c16 = unless(Refusal::RecordTwice, lists::apart(k, list), c18);
-    let c15 = unless(Refusal::NoSuchRecord, lists::exist(n, k, list), c16);
-    let c14 = unless(Refusal::ListLength, lists::length_fine(k), c15);
-    let c12 = unless(Refusal::TaskBusy, idle, c14);
-    unless(Refusal::NoSuchTask, t < p, c12)
-}
-
-fn of_read(p: u8, n: u8, idle: bool, t: u8, r: u8, f: u8) -> Check
-    ensures { result ≡ check (rules p n 0 idle false t (AskRead r f) []) }
-{
-    let c17 = unless(
-        Refusal::PlaceOrField,
-        (f as usize) < Machine::FIELDS,
-        Check::Passed,
-    );
-    let c15 = unless(Refusal::NoSuchRecord, r < n, c17);
-    let c12 = unless(Refusal::TaskBusy, idle, c15);
-    unless(Refusal::NoSuchTask, t < p, c12)
-}
-
-fn of_step(p: u8, idle: bool, t: u8) -> Check
-    ensures { result ≡ check (rules p 0 0 idle false t AskStep []) }
-{
-    let c13 = unless(Refusal::TaskIdle, !idle, Check::Passed);
-    unless(Refusal::NoSuchTask, t < p, c13)
-}
-
-// The first refusal from 11 on that applies to a call, by what it depends on of the table.
-pub fn refusal(e: Call, p: u8, n: u8, used: u8, idle: bool, linked: bool) -> Check
-    ensures { result ≡ check (rules p n used idle linked e.task e.ask e.list) }
+// The first refusal from 11 on that applies to a call: a match on what it asks for, each case of which hands on its own numbers.
+pub fn refusal(e: Call, known: Known) -> Result<(), Refusal>
+    ensures { result ≡ check (rules known.p known.n known.used known.idle known.linked e.task e.ask e.list) }
 {
     let t = e.task;
-    let ask = e.ask;
     let list = e.list;
-    match ask {
-        Ask::Llx { r } => of_llx(p, n, idle, t, r),
+    match e.ask {
+        Ask::Llx { r } => known.llx(t, r),
         Ask::Scx {
-            n: k,
+            n,
             r,
             written,
             field,
-            new,
-        } => of_scx(p, n, used, idle, linked, t, k, r, written, field, list),
-        Ask::Vlx { n: k } => of_vlx(p, n, idle, linked, t, k, list),
-        Ask::Read { r, f } => of_read(p, n, idle, t, r, f),
-        Ask::Step => of_step(p, idle, t),
+            ..
+        } => known.scx(t, n, r, written, field, list),
+        Ask::Vlx { n } => known.vlx(t, n, list),
+        Ask::Read { r, f } => known.read(t, r, f),
+        Ask::Step => known.step(t),
     }
 }
 
@@ -139,27 +119,23 @@ fn listed(ask: Ask) -> u8
     ensures { result ≡ listed ask }
 {
     match ask {
-        Ask::Llx { r } => 0,
-        Ask::Scx {
-            n,
-            r,
-            written,
-            field,
-            new,
-        } => n,
-        Ask::Vlx { n } => n,
-        Ask::Read { r, f } => 0,
-        Ask::Step => 0,
+        Ask::Scx { n, .. } | Ask::Vlx { n } => n,
+        _ => 0,
     }
 }
 
-// Whether each record that a call names has a link, by the links of its list.
+// Whether each record that a call names has a link, by the links of its list. One by one, as `theres` names them: tried with `map`, and the
+// proof did not close.
 pub fn linked(ask: Ask, links: [Link; Machine::LIST]) -> bool
     ensures { result ≡ linked_by ask links }
 {
-    let l0 = links[0];
-    let l1 = links[1];
-    let l2 = links[2];
-    let l3 = links[3];
-    lists::all_linked(listed(ask), [l0.there, l1.there, l2.there, l3.there])
+    lists::all_linked(
+        listed(ask),
+        [
+            links[0].there,
+            links[1].there,
+            links[2].there,
+            links[3].there,
+        ],
+    )
 }

@@ -1,6 +1,6 @@
 -- NUMBERS THAT COME BACK: document 01's number and values for each answer.
 use Rattle.std.specs.Prelude.{ℕ, List, [], ◌∷◌, map}
-use Rattle.rules.specs.Words.{Cell, Refusal, OutOfShape, NoSuchTask, TaskBusy, TaskIdle, ListLength, NoSuchRecord, RecordTwice, PlaceOrField, NoLink, NumbersUsed}
+use Rattle.rules.specs.Words.{Refusal, OutOfShape, NoSuchTask, TaskBusy, TaskIdle, ListLength, NoSuchRecord, RecordTwice, PlaceOrField, NoLink, NumbersUsed}
 use Rattle.rules.specs.Words.{SheetSize, SheetTag, Counts, Distance, EventKind, BufferShort}
 use Rattle.rules.specs.Words.{Answer, Accepted, Snapshot, Finalized, Fail, Yes, No, Value, Refused}
 
@@ -24,7 +24,7 @@ refusal_number BufferShort = 25
 
 abbrev pub number : Answer → ℕ
 number Accepted = 0
-number Snapshot = 1
+number (Snapshot cells) = 1
 number Finalized = 2
 number Fail = 3
 number Yes = 4
@@ -33,12 +33,7 @@ number (Value cell) = 6
 number (Refused why) = refusal_number why
 
 -- four values for a snapshot, one for a value read, none otherwise
-abbrev pub values : Answer → List Cell → List ℕ
-values Accepted cs = []
-values Snapshot cs = map (λ c. c.value) cs
-values Finalized cs = []
-values Fail cs = []
-values Yes cs = []
-values No cs = []
-values (Value cell) cs = cell.value ∷ []
-values (Refused why) cs = []
+abbrev pub values : Answer → List ℕ
+values (Snapshot cells) = map (λ c. c.value) cells
+values (Value cell) = cell.value ∷ []
+values other = []

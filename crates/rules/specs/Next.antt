@@ -1,17 +1,16 @@
 -- THE MACHINE: a table and a call give a table and an answer. A refused call leaves the table as it came.
 use Rattle.std.specs.Prelude.{ℕ, List, [], ◌∷◌, replicate}
-use Rattle.rules.specs.Words.{Machine, Ask, AskLlx, AskScx, AskVlx, AskRead, AskStep, Call, Refusal, Accepted, Refused, Out, Check, Passed, Failed}
-use Rattle.table.specs.Table.{no_cells}
+use Rattle.rules.specs.Words.{Machine, Ask, AskLlx, AskScx, AskVlx, AskRead, AskStep, Call, Refusal, Accepted, Refused, Out, Check, Ok, Err}
 use Rattle.rules.specs.Answer.{number, values}
 use Rattle.rules.specs.Step.{step}
 use Rattle.rules.specs.Start.{start}
 use Rattle.rules.specs.Refuse.{check, rules_of}
 
 unfoldable pub refused : Machine → Refusal → Out
-refused m why = record { m = m; answer = Refused why; cells = no_cells }
+refused m why = record { m = m; answer = Refused why }
 
 unfoldable pub started : Machine → ℕ → Ask → List ℕ → Out
-started m t ask l = record { m = start m t ask l; answer = Accepted; cells = no_cells }
+started m t ask l = record { m = start m t ask l; answer = Accepted }
 
 abbrev pub accepted : Machine → ℕ → Ask → List ℕ → Out
 accepted m t (AskLlx r) l = started m t (AskLlx r) l
@@ -21,8 +20,8 @@ accepted m t (AskRead r f) l = started m t (AskRead r f) l
 accepted m t AskStep l = step m t
 
 abbrev pub answered : Check → Machine → Call → Out
-answered Passed m e = accepted m e.task e.ask e.list
-answered (Failed why) m e = refused m why
+answered (Ok _) m e = accepted m e.task e.ask e.list
+answered (Err why) m e = refused m why
 
 unfoldable pub next : Machine → Call → Out
 next m e = answered (check (rules_of m e)) m e
@@ -48,7 +47,7 @@ abbrev pub Said : Type 0
 Said = ℕ × List ℕ
 
 abbrev pub reports : Out → Said
-reports o = (number o.answer, values o.answer o.cells)
+reports o = (number o.answer, values o.answer)
 
 unfoldable pub after : Machine → List Call → Machine
 after m [] = m

@@ -2,7 +2,7 @@
 -- "Each is given exactly then, the lowest that applies to the call."
 use Rattle.std.specs.Prelude.{ℕ, ◌^◌, Bool, not, List, [], ◌∷◌}
 use Rattle.rules.specs.Words.{Refusal, OutOfShape, NoSuchTask, TaskBusy, TaskIdle, ListLength, NoSuchRecord, RecordTwice, PlaceOrField, NoLink, NumbersUsed}
-use Rattle.rules.specs.Words.{Machine, Ask, AskLlx, AskScx, AskVlx, AskRead, AskStep, Call, Check, Passed, Failed}
+use Rattle.rules.specs.Words.{Machine, Ask, AskLlx, AskScx, AskVlx, AskRead, AskStep, Call, Check, Ok, Err}
 use Rattle.table.specs.Table.{pick, task_at, link_at, max_list, max_fields, max_changes}
 use Rattle.rules.specs.Places.{is_idle}
 use Rattle.rules.specs.Claim.{Claim, less, holds, ◌&◌, test}
@@ -31,8 +31,8 @@ unless x c = record { why = x; unless = c }
 
 -- the first rule that is broken; no rule speaks of stored numbers, so that it does not matter how many count as used
 abbrev pub check : List Rule → Check
-check [] = Passed
-check (x ∷ xs) = pick (test 0 x.unless) (check xs) (Failed x.why)
+check [] = Ok tt
+check (x ∷ xs) = pick (test 0 x.unless) (check xs) (Err x.why)
 
 -- what each call can meet, from 11 on, by what it depends on of the table: P, N, the used count, whether the task is idle, and
 -- whether it has a link to each record of the call's list

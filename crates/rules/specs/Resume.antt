@@ -1,27 +1,9 @@
 -- "Local work rides on it": where the steps lead, by what their accesses saw. Places.antt has which of these each place does.
 use Rattle.std.specs.Prelude.{ℕ, ◌+◌, Bool, true, false, List, get_or, eqb, ltb, leb}
-use Rattle.rules.specs.Words.{State, InProgress, Committed, Aborted, After, Own, AtL8, AtL11, Move}
-use Rattle.rules.specs.Words.{Place, Idle, L5, L6, L7, L8, L9, L11, H1, H2, H3, H4, H5, H6, H7, Vlx}
-use Rattle.rules.specs.Words.{Answer, Accepted, Snapshot, Finalized, Fail, Yes, No}
-use Rattle.table.specs.Table.{pick, max_list, max_fields}
-
--- on to a place; on, with the cell seen kept as field f; the answer, the task idle. No field is numbered max_fields: no cell is kept
-abbrev pub on : Place → Move
-on q = record { place = q; answer = Accepted; field = max_fields; store = false; drop = 0 }
-
-abbrev pub on_with : Place → ℕ → Move
-on_with q f = record { place = q; answer = Accepted; field = f; store = false; drop = 0 }
-
-abbrev pub done : Answer → Move
-done a = record { place = Idle; answer = a; field = max_fields; store = false; drop = 0 }
-
--- the snapshot, the link stored
-abbrev pub snapshot : Move
-snapshot = record { place = Idle; answer = Snapshot; field = max_fields; store = true; drop = 0 }
-
--- no, the links to the n records of the list dropped
-abbrev pub no_and_drop : ℕ → Move
-no_and_drop n = record { place = Idle; answer = No; field = max_fields; store = false; drop = n }
+use Rattle.rules.specs.Words.{State, InProgress, Committed, Aborted, After, Own, AtL8, AtL11, Move, On, Done, Store, Unlink}
+use Rattle.rules.specs.Words.{Place, L5, L6, L7, L8, L9, L11, H1, H2, H3, H4, H5, H6, H7, Vlx}
+use Rattle.rules.specs.Words.{Finalized, Fail, Yes, No}
+use Rattle.table.specs.Table.{pick, max_list}
 
 -- "L4 .. If that state was Aborted, or Committed with m2 no, go to L5, else L7"
 abbrev pub after_l4 : ℕ → Bool → ℕ → State → Bool → Place
@@ -36,14 +18,14 @@ after_l5 r m1 a f = pick (ltb f 3) (L5 r m1 a (f + 1)) (L6 r m1 a)
 
 -- "L6 .. if it is a, store the link and answer the snapshot; else L7"
 abbrev pub after_l6 : ℕ → Bool → ℕ → ℕ → Move
-after_l6 r m1 a now = pick (eqb now a) snapshot (on (L7 r m1 a))
+after_l6 r m1 a now = pick (eqb now a) Store (On (L7 r m1 a))
 
 -- "L7 .. Committed answers Finalized if m1, else goes to L9; otherwise L8"
 abbrev pub after_l7 : ℕ → Bool → ℕ → State → Move
-after_l7 r m1 a InProgress = on (L8 r m1 a)
-after_l7 r false a Committed = on (L9 r)
-after_l7 r true a Committed = done Finalized
-after_l7 r m1 a Aborted = on (L8 r m1 a)
+after_l7 r m1 a InProgress = On (L8 r m1 a)
+after_l7 r false a Committed = On (L9 r)
+after_l7 r true a Committed = Done Finalized
+after_l7 r m1 a Aborted = On (L8 r m1 a)
 
 -- "L8 .. InProgress means help a, else L9"
 abbrev pub after_l8 : ℕ → Bool → ℕ → State → Place
@@ -53,22 +35,22 @@ after_l8 r m1 a Aborted = L9 r
 
 -- "L10 read state of b: not InProgress answers Fail"
 abbrev pub after_l10 : ℕ → State → Move
-after_l10 r InProgress = on (L11 r)
-after_l10 r Committed = done Fail
-after_l10 r Aborted = done Fail
+after_l10 r InProgress = On (L11 r)
+after_l10 r Committed = Done Fail
+after_l10 r Aborted = Done Fail
 
 -- "L11 read info as c, help c, then Fail. If c is 0 .. L11 itself answers Fail"
 abbrev pub after_l11 : ℕ → Move
-after_l11 c = pick (eqb c 0) (done Fail) (on (H1 c 0 AtL11))
+after_l11 c = pick (eqb c 0) (Done Fail) (On (H1 c 0 AtL11))
 
 -- What a verdict means to who helped: "the verdict answers"; "After helping: yes with m1 answers Finalized, otherwise L9"; "then Fail"
 abbrev pub verdict : Bool → After → Move
-verdict true Own = done Yes
-verdict false Own = done No
-verdict true (AtL8 r true) = done Finalized
-verdict true (AtL8 r false) = on (L9 r)
-verdict false (AtL8 r m1) = on (L9 r)
-verdict ok AtL11 = done Fail
+verdict true Own = Done Yes
+verdict false Own = Done No
+verdict true (AtL8 r true) = Done Finalized
+verdict true (AtL8 r false) = On (L9 r)
+verdict false (AtL8 r m1) = On (L9 r)
+verdict ok AtL11 = Done Fail
 
 -- "H1 for each place in order": after place i of n, the next one, or H5
 abbrev pub after_held : ℕ → ℕ → ℕ → After → Place
@@ -83,7 +65,7 @@ after_h2 u i n after now = pick (eqb now u) (after_held u i n after) (H3 u after
 
 -- "H3 read allFrozen: yes gives verdict yes; no leads to H4"
 abbrev pub after_h3 : ℕ → After → Bool → Move
-after_h3 u after frozen = pick frozen (verdict true after) (on (H4 u after))
+after_h3 u after frozen = pick frozen (verdict true after) (On (H4 u after))
 
 -- the first place of R from i on, max_list where there is none
 abbrev pub is_from : ℕ → ℕ → Bool → Bool
@@ -101,4 +83,4 @@ at_mark u i after = pick (ltb i max_list) (H6 u i after) (H7 u after)
 -- "VLX: .. a difference from the link answers no at once and drops the links of all V; after the last, yes, links kept"
 abbrev pub after_vlx : ℕ → ℕ → ℕ → ℕ → Move
 after_vlx n i now linked =
-    pick (eqb now linked) (pick (ltb (i + 1) n) (on (Vlx n (i + 1))) (done Yes)) (no_and_drop n)
+    pick (eqb now linked) (pick (ltb (i + 1) n) (On (Vlx n (i + 1))) (Done Yes)) (Unlink n)

@@ -10,7 +10,7 @@ pub use Rattle.table.specs.declared.Place.{Place}
 pub use Rattle.table.specs.declared.Place.TheVariants.{Idle, L1, L2, L3, L4, L5, L6, L7, L8, L9, L10, L11}
 pub use Rattle.table.specs.declared.Place.TheVariants.{H1, H2, H3, H4, H5, H6, H7, H8, Vlx, Read}
 pub use Rattle.table.specs.declared.Operation.{Operation}
-pub use Rattle.table.specs.declared.Operation.TheVariants.{None as InNone, Llx as InLlx, Scx as InScx, Vlx as InVlx, Read as InRead}
+pub use Rattle.table.specs.declared.Operation.TheVariants.{Llx as InLlx, Scx as InScx, Vlx as InVlx, Read as InRead}
 pub use Rattle.table.specs.declared.Task.{Task}
 pub use Rattle.table.specs.declared.Link.{Link}
 pub use Rattle.table.specs.declared.Machine.{Machine}
@@ -27,5 +27,9 @@ pub use Rattle.table.specs.declared.Access.{Access}
 pub use Rattle.table.specs.declared.Access.TheVariants.{Nothing, ReadMark, ReadInfo, ReadCell, ReadState, ReadFrozen, Hold, Close, Write, Freeze, Abort, Commit}
 pub use Rattle.table.specs.declared.Seen.{Seen}
 pub use Rattle.table.specs.declared.Move.{Move}
-pub use Rattle.table.specs.declared.Check.{Check}
-pub use Rattle.table.specs.declared.Check.TheVariants.{Passed, Failed}
+pub use Rattle.table.specs.declared.Move.TheVariants.{On, Keep, Done, Store, Unlink}
+pub use Rattle.std.specs.Prelude.{Result, Ok, Err}
+
+-- what the refusals of a call come to: none applies, or the lowest that does
+abbrev pub Check : Type 0
+Check = Result (Unit {0}) Refusal

@@ -8,12 +8,11 @@ use lib.ListN.{length, take, drop, length-append}
 use borrow.Author.Tests.{lt-ltb, le-leb, eq-eqb}
 use Rattle.table.proofs.Tabulate.{length_tabulate}
 use Rattle.table.specs.Fresh.{in_range, fresh}
-use Rattle.rules.specs.Words.{Machine, Out}
+use Rattle.rules.specs.Words.{Machine, Out, Ok}
 use Rattle.rules.specs.Shape.{in_shape}
 use Rattle.keeps.proofs.Lengths.{Sized, fresh_sized}
 use Rattle.keeps.proofs.Fresh.{fresh_in_shape}
 use Rattle.sheet.specs.declared.Layout.{Layout}
-use Rattle.sheet.specs.declared.Sheet.TheVariants.{Read}
 use Rattle.event.specs.Event.{pair}
 use Rattle.sheet.specs.Layout.{numbers, values_in, values_part, events_part, parts_of, sheet_of}
 use Rattle.sheet.proofs.Laws.{read_inside, take_values}
@@ -53,23 +52,23 @@ table_is s at size vs o es n32 ev eo =
 in_range_lem : (p n k : ℕ) → 1 ≤ p → p ≤ 8 → 1 ≤ n → n ≤ 32 → k ≡ 4 * n → in_range p n k ≡ true
 in_range_lem p n k p1 p8 n1 n32 e = rw (lt-ltb 0 p p1, le-leb p 8 p8, lt-ltb 0 n n1, le-leb n 32 n32, eq-eqb k (4 * n) e) refl
 
-pub ranged : (s : List ℕ) (at : Layout) → sheet_of s ≡ Read at → in_range at.p at.n (length (parts_of s at).values) ≡ true
+pub ranged : (s : List ℕ) (at : Layout) → sheet_of s ≡ Ok at → in_range at.p at.n (length (parts_of s at).values) ≡ true
 unfolding parts_of numbers
 ranged s at e =
     let i = read_inside e in
     in_range_lem at.p at.n _ i.tasks.0 i.tasks.1 i.records.0 i.records.1
     (length_tabulate (4 * at.n) (λ k. pair (values_part s at) (2 * k)))
 
-shaped : (s : List ℕ) (at : Layout) → sheet_of s ≡ Read at → in_shape (table_of s at) ≡ true
+shaped : (s : List ℕ) (at : Layout) → sheet_of s ≡ Ok at → in_shape (table_of s at) ≡ true
 unfolding table_of
 shaped s at e = fresh_in_shape at.p at.n (parts_of s at).values (ranged s at e)
 
-sized : (s : List ℕ) (at : Layout) → sheet_of s ≡ Read at → Sized (table_of s at)
+sized : (s : List ℕ) (at : Layout) → sheet_of s ≡ Ok at → Sized (table_of s at)
 unfolding table_of
 sized s at e = fresh_sized at.p at.n (parts_of s at).values (ranged s at e)
 
 -- the events played, then the records, then the tally
-module _ (s : List ℕ) (at : Layout) (e : sheet_of s ≡ Read at) where
+module _ (s : List ℕ) (at : Layout) (e : sheet_of s ≡ Ok at) where
   abbrev m : Machine
   m = table_of s at
 

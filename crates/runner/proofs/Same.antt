@@ -22,8 +22,9 @@ use Rattle.exact.proofs.Hand.{turn_is}
 use Rattle.event.specs.Event.{event_at}
 use Rattle.hand.specs.Hand.{turn_in}
 use Rattle.tally.specs.declared.Tally.{Tally}
+use Rattle.std.specs.Prelude.{Option, Some, None}
 use Rattle.table.specs.declared.Operation.{Operation}
-use Rattle.table.specs.declared.Operation.TheVariants.{None, Llx, Scx, Vlx, Read}
+use Rattle.table.specs.declared.Operation.TheVariants.{Llx, Scx, Vlx, Read}
 use Rattle.rules.specs.Places.{operation_of}
 use Rattle.tally.specs.Count.{counted_of, tally_of, first_of}
 use Rattle.tally.proofs.Counting.{counted_next, first_none}
@@ -42,13 +43,13 @@ no_task_lem m t (AskRead r f) l h g = rw (h, g) refl
 no_task_lem m t AskStep l h f = rw (h, f) refl
 
 -- and a refusal counts nowhere, whatever the operation
-counts_nowhere : (t : Tally) (x : Operation) (why : Refusal) → counted_of t (record { operation = x; answer = Refused why }) ≡ t
+counts_nowhere : (t : Tally) (x : Option Operation) (why : Refusal) → counted_of t (record { operation = x; answer = Refused why }) ≡ t
 unfolding counted_of
 counts_nowhere t None why = refl
-counts_nowhere t Llx why = refl
-counts_nowhere t Scx why = refl
-counts_nowhere t Vlx why = refl
-counts_nowhere t Read why = refl
+counts_nowhere t (Some Llx) why = refl
+counts_nowhere t (Some Scx) why = refl
+counts_nowhere t (Some Vlx) why = refl
+counts_nowhere t (Some Read) why = refl
 
 module _ (m : Machine) (es : List ℕ) (Z : Sized m) (h : in_shape m ≡ true) where
   sized : (i : ℕ) → Sized (machine_at m es i)
@@ -75,7 +76,7 @@ module _ (m : Machine) (es : List ℕ) (Z : Sized m) (h : in_shape m ≡ true) w
 
   pub same_lines : line_in m es ≡ event_line m es
   unfolding line_in event_line
-  same_lines = fun_ext (λ i. ap (λ (o : Out). answer_line (i + 1) (event_at es i).task o.answer o.cells) (same_out i))
+  same_lines = fun_ext (λ i. ap (λ (o : Out). answer_line (i + 1) (event_at es i).task o.answer) (same_out i))
 
   -- what an event tells counts the same: the task is not clipped, or the call is refused
   same_count : (t : Tally) (i : ℕ) → counted_of t (told_in m es i) ≡ counted_of t (told_at m es i)

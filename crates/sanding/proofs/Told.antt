@@ -5,17 +5,15 @@ use mathlib.Core.Path.{◌≡◌, refl}
 use mathlib.Core.List.{List, [], ◌∷◌, ◌++◌}
 use lib.ListN.{length, length-append}
 use borrow.Author.Tests.{le-leb, lt-leb}
-use Rattle.sheet.specs.declared.Sheet.{Sheet}
-use Rattle.sheet.specs.declared.Sheet.TheVariants.{Read, Refused}
+use Rattle.sheet.specs.declared.Layout.{Layout}
 use Rattle.sheet.specs.Layout.{sheet_of, events_part}
-use Rattle.rules.specs.Words.{Machine, Refusal}
+use Rattle.rules.specs.Words.{Machine, Refusal, Result, Ok, Err}
 use Rattle.tally.specs.declared.Tally.{Tally}
 use Rattle.rules.specs.Answer.{refusal_number}
 use Rattle.text.specs.Text.{joined, lettered}
 use Rattle.tally.specs.Count.{tally_of, first_of}
 use Rattle.lines.specs.Lines.{tally_line, refusal_line}
-use Rattle.runner.specs.declared.Ran.{Ran}
-use Rattle.runner.specs.declared.Ran.TheVariants.{Text, Short}
+use Rattle.runner.specs.declared.Short.{Short}
 use Rattle.runner.specs.Run.{machine_at, told_at, event_line, record_line_at, run_text, table_of, text_as, text_of, room_as, ran_of, printed_of}
 use Rattle.runner.proofs.Room.{in_buffer}
 use Rattle.sanding.specs.Exported.{length_in}
@@ -45,9 +43,9 @@ not_empty : (s : List ℕ) → 1 ≤ length (text_of s)
 unfolding text_of
 not_empty s = some (sheet_of s)
   where
-    some : (x : Sheet) → 1 ≤ length (text_as s x)
-    some (Read at) = run_some (table_of s at) (events_part s at) at.count at.n
-    some (Refused why) = refusal_some why
+    some : (x : Result Layout Refusal) → 1 ≤ length (text_as s x)
+    some (Ok at) = run_some (table_of s at) (events_part s at) at.count at.n
+    some (Err why) = refusal_some why
 
 -- 0 exactly where the buffer is shorter than the room
 pub too_short : (s : List ℕ) (size : ℕ) → size < room_as (sheet_of s) → length_in (ran_of s size) ≡ 0
@@ -65,6 +63,6 @@ text_is_there s size h = rw (fits s size h) (not_empty s)
 pub told_in_buffer : (s old : List ℕ) → length_in (ran_of s (length old)) ≤ length (printed_of s old)
 told_in_buffer s old = by (ran_of s (length old)) refl
   where
-    by : (o : Ran) → ran_of s (length old) ≡ o → length_in o ≤ length (printed_of s old)
-    by (Text n) e = in_buffer s old n e
-    by (Short room) e = omega arith
+    by : (o : Result ℕ Short) → ran_of s (length old) ≡ o → length_in o ≤ length (printed_of s old)
+    by (Ok n) e = in_buffer s old n e
+    by (Err short) e = omega arith

@@ -6,17 +6,14 @@ ghost use Rattle.sheet.specs.Layout.{sheet_of};
 ghost use Rattle.runner.specs.Run.{room_as, ran_of, printed_of};
 ghost use Rattle.sanding.specs.Exported.{refusal_in, length_in};
 
-use runner::Ran;
-use sheet::Sheet;
-
-// The number of the refusal that a sheet gets, 20 to 24, or 0 if it is accepted. Nothing is run.
+// The number of the refusal that a sheet gets, 20 to 24, or 0 if it is accepted: a number, since the C interface has it so (linked/sanding.h).
+// Nothing is run.
 pub fn sanding_refusal(s: &[u8]) -> u8
     ensures { result ≡ refusal_in (sheet_of s.now) }
 {
-    let read = sheet::layout_of(s);
-    match read {
-        Sheet::Read { .. } => 0,
-        Sheet::Refused { why } => answers::refusal_number(why),
+    match sheet::layout_of(s) {
+        Ok(_) => 0,
+        Err(why) => answers::refusal_number(why),
     }
 }
 
@@ -24,17 +21,12 @@ pub fn sanding_refusal(s: &[u8]) -> u8
 pub fn sanding_room(s: &[u8]) -> usize
     ensures { result ≡ room_as (sheet_of s.now) }
 {
-    let read = sheet::layout_of(s);
-    runner::room_of(read)
+    runner::room_of(sheet::layout_of(s))
 }
 
 // The text of the sheet's run, at the front of the buffer: its length. 0 if the buffer is too short; it then stays as it was.
 pub fn sanding_run(s: &[u8], out: &mut [u8]) -> usize
     ensures { (result ≡ length_in (ran_of s.now (length out.old))) × (out.new ≡ printed_of s.now out.old) }
 {
-    let ran = runner::run(s, out);
-    match ran {
-        Ran::Text { length } => length,
-        Ran::Short { .. } => 0,
-    }
+    runner::run(s, out).unwrap_or(0)
 }

@@ -1,4 +1,5 @@
-// The static library for programs in C and Rust: it exports the functions of crate sanding. A slice passes as a pointer and a length.
+// The static library for programs in C and Rust: it exports the functions of crate sanding. A slice passes as a pointer and a length. The
+// functions stand twice, since no crate can call a static library: Rattle's own callers take those of sanding.
 #![tactic(auto)]
 
 ghost use Rattle.std.specs.Prelude.{◌≡◌, length};
@@ -6,7 +7,8 @@ ghost use Rattle.sheet.specs.Layout.{sheet_of};
 ghost use Rattle.runner.specs.Run.{room_as, ran_of, printed_of};
 ghost use Rattle.sanding.specs.Exported.{refusal_in, length_in};
 
-// The number of the refusal that a sheet gets, 20 to 24, or 0 if it is accepted. Nothing is run.
+// The number of the refusal that a sheet gets, 20 to 24, or 0 if it is accepted: a number, since the C interface has it so (linked/sanding.h).
+// Nothing is run.
 #[unsafe(no_mangle)]
 pub extern "C" fn sanding_refusal(s: &[u8]) -> u8
     ensures { result ≡ refusal_in (sheet_of s.now) }

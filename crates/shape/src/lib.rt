@@ -1,5 +1,6 @@
-// The test of the shape: refusal 10 where it fails. Each function has the claim of a line of the rules' Shape.
-#![tactic(auto)]
+// The test of the shape: refusal 10 where it fails. Each function has the claim of a line of the rules' Shape, and goes by number as that
+// does. No methods: the type Machine is another crate's.
+#![tactic(auto, using(lists::proofs::Laws::chain))]
 
 mod place;
 
@@ -20,129 +21,74 @@ fn numbers_known(used: u8, info: u8, cells: Cells) -> bool
 fn record_fine(used: u8, x: Record) -> bool
     ensures { result ≡ test used (spec.record_fine x) }
 {
-    let cells = x.cells;
-    numbers_known(used, x.info, cells)
+    numbers_known(used, x.info, x.cells)
 }
 
 fn link_fine(used: u8, x: Link) -> bool
     ensures { result ≡ test used (spec.link_fine x) }
 {
-    let cells = x.cells;
-    if x.there {
-        numbers_known(used, x.info, cells)
-    } else {
-        true
-    }
+    !x.there || numbers_known(used, x.info, x.cells)
 }
 
-fn change_fine(used: u8, records: u8, x: Change) -> bool
-    ensures { result ≡ test used (spec.change_fine records x) }
+fn change_fine(m: &Machine, x: Change) -> bool
+    ensures { result ≡ test m.now.used (spec.change_fine m.now.n x) }
 {
-    let v = x.v;
-    let r = x.r;
-    let old = x.old;
-    let infos = x.infos;
-    lists::list_fine(records, x.n, v)
-        && (lists::in_list(x.n, r)
-            && (x.written < x.n
-                && ((x.field as usize) < Machine::FIELDS
-                    && (old.stamp <= used && lists::infos_known(used, x.n, infos)))))
+    lists::list_fine(m.n, x.n, x.v)
+        && lists::in_list(x.n, x.r)
+        && x.written < x.n
+        && x.field < Machine::FIELDS as u8
+        && x.old.stamp <= m.used
+        && lists::infos_known(m.used, x.n, x.infos)
 }
 
-fn task_fine(m: Machine, t: u8) -> bool
-    requires { t < 8 }
-    ensures { result ≡ test m.used (spec.task_fine m t) }
+// That n is at most 32 is asked of the caller: `in_shape` tests it first. A type for it would be made for these three calls, since a machine
+// may have any n (`machine::call` takes every state).
+fn records_fine(m: &Machine) -> bool
+    requires { m.now.n ≤ 32 }
+    ensures { result ≡ test m.now.used (each m.now.n (λ r. spec.record_fine (record_at m.now r))) }
 {
-    let k = t as usize;
-    let x = m.tasks[k];
-    let place = x.place;
-    let c = access::change_of(place) as usize;
-    let ch = m.changes[c];
-    let links = m.links;
-    place::place_fine(m.used, m.n, ch, links, t, x)
+    (0..m.n).all(|r| record_fine(m.used, m.records[r as usize]))
 }
 
-fn records_fine(m: Machine) -> bool
-    requires { m.n ≤ 32 }
-    ensures { result ≡ test m.used (each m.n (λ r. spec.record_fine (record_at m r))) }
+fn changes_fine(m: &Machine) -> bool
+    ensures { result ≡ test m.now.used (each m.now.used (λ i. spec.change_fine m.now.n (change_at m.now (suc i)))) }
 {
-    let mut i = 0;
-    while i < m.n {
-        let k = i as usize;
-        let x = m.records[k];
-        if !record_fine(m.used, x) {
-            return false;
-        }
-        i += 1;
-    }
-    true
+    (0..m.used).all(|i| change_fine(m, m.changes[i as usize + 1]))
 }
 
-fn changes_fine(m: Machine) -> bool
-    ensures { result ≡ test m.used (each m.used (λ i. spec.change_fine m.n (change_at m (suc i)))) }
+fn tasks_fine(m: &Machine) -> bool
+    requires { m.now.p ≤ 8 }
+    ensures { result ≡ test m.now.used (each m.now.p (λ t. spec.task_fine m.now t)) }
 {
-    let mut i = 0;
-    while i < m.used {
-        let k = i as usize + 1;
-        let x = m.changes[k];
-        if !change_fine(m.used, m.n, x) {
-            return false;
-        }
-        i += 1;
-    }
-    true
-}
-
-fn tasks_fine(m: Machine) -> bool
-    requires { m.p ≤ 8 }
-    ensures { result ≡ test m.used (each m.p (λ t. spec.task_fine m t)) }
-{
-    let mut i = 0;
-    while i < m.p {
-        if !task_fine(m, i) {
-            return false;
-        }
-        i += 1;
-    }
-    true
+    (0..m.p).all(|t| place::task_fine(m, t))
 }
 
 // The links of task t.
-fn links_of_fine(m: Machine, t: u8) -> bool
-    requires { (t < 8) × (m.n ≤ 32) }
-    ensures { result ≡ test m.used (each m.n (λ r. spec.link_fine (link_at m t r))) }
+fn links_of_fine(m: &Machine, t: u8) -> bool
+    requires tasks { t < 8 }
+    requires records { m.now.n ≤ 32 }
+    ensures { result ≡ test m.now.used (each m.now.n (λ r. spec.link_fine (link_at m.now t r))) }
 {
-    let mut i = 0;
-    while i < m.n {
-        let k = t as usize * Machine::RECORDS + i as usize;
-        let x = m.links[k];
-        if !link_fine(m.used, x) {
-            return false;
-        }
-        i += 1;
-    }
-    true
+    (0..m.n).all(|r| link_fine(m.used, m.links[t as usize * Machine::RECORDS + r as usize]))
 }
 
-fn links_fine(m: Machine) -> bool
-    requires { (m.p ≤ 8) × (m.n ≤ 32) }
-    ensures { result ≡ test m.used (each m.p (λ t. each m.n (λ r. spec.link_fine (link_at m t r)))) }
+fn links_fine(m: &Machine) -> bool
+    requires tasks { m.now.p ≤ 8 }
+    requires records { m.now.n ≤ 32 }
+    ensures { result ≡ test m.now.used (each m.now.p (λ t. each m.now.n (λ r. spec.link_fine (link_at m.now t r)))) }
 {
-    let mut i = 0;
-    while i < m.p {
-        if !links_of_fine(m, i) {
-            return false;
-        }
-        i += 1;
-    }
-    true
+    (0..m.p).all(|t| links_of_fine(m, t))
 }
 
 // In the order of the claim. That the used count is at most 255 needs no test: it is a byte.
+#[tactic(auto, using(lists::proofs::Laws::chain), unfolding(rules::specs::Shape::in_shape, rules::specs::Shape::shape))]
 pub fn in_shape(m: Machine) -> bool
     ensures { result ≡ spec.in_shape m }
 {
     lists::within(Machine::TASKS, m.p)
-        && (lists::within(Machine::RECORDS, m.n)
-            && (records_fine(m) && (changes_fine(m) && (tasks_fine(m) && links_fine(m)))))
+        && lists::within(Machine::RECORDS, m.n)
+        && records_fine(&m)
+        && changes_fine(&m)
+        && tasks_fine(&m)
+        && links_fine(&m)
 }

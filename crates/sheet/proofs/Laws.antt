@@ -6,21 +6,26 @@ use mathlib.Core.Bool.{Bool, true, false}
 use mathlib.Core.List.{List}
 use lib.ListN.{length, take}
 use lib.Seq.{ext_get_or, get_or-take, length-take-le}
+use Rattle.std.specs.Result.{result_and}
 use Rattle.table.specs.Table.{pick, tabulate}
 use Rattle.table.proofs.Tabulate.{length_tabulate, get_d_tabulate}
-use Rattle.rules.specs.Words.{Refusal, SheetSize, SheetTag, Counts, Distance, EventKind, Check, Passed, Failed}
+use Rattle.rules.specs.Words.{Refusal, SheetSize, SheetTag, Counts, Distance, EventKind, Check, Ok, Err}
 use Rattle.rules.specs.Refuse.{check}
 use Rattle.rules.proofs.Exact.{told}
 use Rattle.event.specs.Event.{pair}
 use Rattle.sheet.specs.declared.Layout.{Layout}
-use Rattle.sheet.specs.declared.Sheet.TheVariants.{Read}
-use Rattle.sheet.specs.Layout.{layout_of, size_fine, counts_fine, read_as, sheet_rules, sheet_of, numbers, values_in}
+use Rattle.sheet.specs.Layout.{layout_of, size_fine, counts_fine, sheet_rules, sheet_of, numbers, values_in}
 use Rattle.sheet.proofs.Refusals.{size, tag, counts, back, events, accepted, filled, long_enough}
 
 -- a test that does not stop the check was passed
-pub kept_on : (b : Bool) (c : Check) (why : Refusal) → pick b c (Failed why) ≡ Passed → (b ≡ true) × (c ≡ Passed)
+pub kept_on : (b : Bool) (c : Check) (why : Refusal) → pick b c (Err why) ≡ Ok tt → (b ≡ true) × (c ≡ Ok tt)
 kept_on true c why h = (refl, h)
 kept_on false c why h = let z : ◌≡◌ {A = ℕ} 0 1 = cc in absurd (omega arith)
+
+-- what is answered behind a check that was passed
+pub answered : {A : Type 0} (c : Check) {x y : A} → result_and c (Ok x) ≡ Ok y → (c ≡ Ok tt) × (y ≡ x)
+answered (Ok _) h = (refl, cc)
+answered (Err why) h = let z : ◌≡◌ {A = ℕ} 0 1 = cc in absurd (omega arith)
 
 -- the five tests
 pub record Kept (s : List ℕ) (at : Layout) : Type 0 where
@@ -31,15 +36,11 @@ pub record Kept (s : List ℕ) (at : Layout) : Type 0 where
   pub back_kept : back s at ≡ true
   pub events_kept : events s at ≡ true
 
-pub read_kept : {s : List ℕ} {at : Layout} → sheet_of s ≡ Read at → Kept s at
+pub read_kept : {s : List ℕ} {at : Layout} → sheet_of s ≡ Ok at → Kept s at
 unfolding sheet_of
-read_kept {s} {at} e = let (passed, layout) = go (check (sheet_rules s (layout_of s))) e in rest passed layout
+read_kept {s} {at} e = let (passed, layout) = answered (check (sheet_rules s (layout_of s))) e in rest passed layout
   where
-    go : (c : Check) → read_as c (layout_of s) ≡ Read at → (c ≡ Passed) × (at ≡ layout_of s)
-    go Passed h = (refl, cc)
-    go (Failed why) h = let z : ◌≡◌ {A = ℕ} 0 1 = cc in absurd (omega arith)
-
-    rest : check (sheet_rules s (layout_of s)) ≡ Passed → at ≡ layout_of s → Kept s at
+    rest : check (sheet_rules s (layout_of s)) ≡ Ok tt → at ≡ layout_of s → Kept s at
     rest c f =
         let at' = layout_of s in
         let k20 = kept_on (size s) _ SheetSize c in
@@ -56,7 +57,7 @@ read_kept {s} {at} e = let (passed, layout) = go (check (sheet_rules s (layout_o
           events_kept = rw f k24.0;
         }
 
-pub kept_read : {s : List ℕ} {at : Layout} → Kept s at → sheet_of s ≡ Read at
+pub kept_read : {s : List ℕ} {at : Layout} → Kept s at → sheet_of s ≡ Ok at
 kept_read {s} {at} k =
     rw k.layout
     (sym
@@ -70,7 +71,7 @@ pub record Inside (s : List ℕ) (at : Layout) : Type 0 where
   pub most_events : at.count ≤ 5000
   pub most_bytes : length s ≤ 65000
 
-pub read_inside : {s : List ℕ} {at : Layout} → sheet_of s ≡ Read at → Inside s at
+pub read_inside : {s : List ℕ} {at : Layout} → sheet_of s ≡ Ok at → Inside s at
 read_inside {s} {at} e =
     let k = read_kept e in
     let q = told 0 (counts_fine at.p at.n at.count) k.counts_kept in

@@ -1,18 +1,17 @@
--- A sheet's refusals, one after the other: what the code has tested so far, and what the sheet then is.
+-- A sheet's refusals: what each test says of the sheet's bytes, and that a sheet that passes all is read.
 use Prim.Native.Nat.{ℕ, ◌+◌, ◌-◌, ◌*◌, ◌≤◌}
 use native.Mathlib.Omega.{arith}
 use mathlib.Core.Path.{◌≡◌, refl, ap, ◌∙◌}
-use mathlib.Core.Bool.{Bool, true, false}
+use mathlib.Core.Bool.{Bool, true}
 use mathlib.Core.List.{List}
 use lib.ListN.{length, take, drop}
 use borrow.Author.Tests.{eqb-true}
 use Rattle.table.specs.Table.{tabulate}
-use Rattle.rules.specs.Words.{SheetSize, SheetTag, Counts, Distance, EventKind}
+use Rattle.rules.specs.Words.{Ok}
 use Rattle.rules.specs.Claim.{test}
 use Rattle.rules.proofs.Exact.{told}
 use Rattle.event.specs.Event.{byte, events_fine}
 use Rattle.sheet.specs.declared.Layout.{Layout}
-use Rattle.sheet.specs.declared.Sheet.TheVariants.{Read, Refused}
 use Rattle.sheet.specs.Layout.{trailer, distance, layout_by, layout_of, events_part, size_fine, tag_fine, counts_fine, distance_fine, sheet_of}
 
 -- the four tests before the events, and the events'
@@ -32,29 +31,8 @@ abbrev pub events : List ℕ → Layout → Bool
 events s at = events_fine (events_part s at) at.count
 
 module _ (s : List ℕ) where
-  pub refused_20 : size s ≡ false → Refused SheetSize ≡ sheet_of s
-  unfolding sheet_of
-  refused_20 a = rw a refl
-
-  pub refused_21 : size s ≡ true → tag s ≡ false → Refused SheetTag ≡ sheet_of s
-  unfolding sheet_of
-  refused_21 a b = rw (a, b) refl
-
-  pub refused_22 : size s ≡ true → tag s ≡ true → counts (layout_of s) ≡ false → Refused Counts ≡ sheet_of s
-  unfolding sheet_of
-  refused_22 a b c = rw (a, b, c) refl
-
-  pub refused_23 : size s ≡ true → tag s ≡ true → counts (layout_of s) ≡ true → back s (layout_of s) ≡ false → Refused Distance ≡ sheet_of s
-  unfolding sheet_of
-  refused_23 a b c d = rw (a, b, c, d) refl
-
-  pub refused_24 : size s ≡ true → tag s ≡ true → counts (layout_of s) ≡ true → back s (layout_of s) ≡ true → events s (layout_of s) ≡ false
-      → Refused EventKind ≡ sheet_of s
-  unfolding sheet_of
-  refused_24 a b c d e = rw (a, b, c, d, e) refl
-
   pub accepted : size s ≡ true → tag s ≡ true → counts (layout_of s) ≡ true → back s (layout_of s) ≡ true → events s (layout_of s) ≡ true
-      → Read (layout_of s) ≡ sheet_of s
+      → Ok (layout_of s) ≡ sheet_of s
   unfolding sheet_of
   accepted a b c d e = rw (a, b, c, d, e) refl
 
@@ -97,3 +75,6 @@ module _ (s t : List ℕ) (et : t ≡ tabulate 8 (byte (trailer s))) where
     events_is a =
         let e : length s - 8 - (at.from + 8 * at.n) ≡ 12 * at.count = let h = filled_is a in omega arith in
         rw e (ap (λ (x : Layout). events_fine (events_part s x) x.count) at_is)
+
+-- by these the tests of the code are those of the sheet, and its parts lie inside it
+pub ruleset tested = (tag_is, at_is, counts_is, back_is, events_is, filled_is, long_enough)

@@ -2,15 +2,14 @@
 -- owner's; initial values, 8 bytes a record, each value low byte first; events, 12 bytes each; a trailer of 8 bytes". The events are in the
 -- crate `event`, the writer in `writer`.
 use Rattle.std.specs.Prelude.{ℕ, suc, ◌+◌, ◌-◌, ◌*◌, List, [], ◌∷◌, length, take, drop, eqb}
+use Rattle.std.specs.Result.{result_and}
 use Rattle.table.specs.Table.{tabulate, max_tasks, max_records, max_events, max_fields}
-use Rattle.rules.specs.Words.{SheetSize, SheetTag, Counts, Distance, EventKind, Check, Passed, Failed}
+use Rattle.rules.specs.Words.{Refusal, SheetSize, SheetTag, Counts, Distance, EventKind, Result, Ok}
 use Rattle.rules.specs.Claim.{Claim, less, holds, ◌&◌}
 use Rattle.rules.specs.Shape.{within}
 use Rattle.rules.specs.Refuse.{Rule, unless, check}
 use Rattle.event.specs.Event.{byte, pair, event_size, events_fine}
 use Rattle.sheet.specs.declared.Layout.{Layout}
-use Rattle.sheet.specs.declared.Sheet.{Sheet}
-use Rattle.sheet.specs.declared.Sheet.TheVariants.{Read, Refused}
 
 -- THE SIZES, in bytes; a sheet has up to 65,000, and 0 to 5,000 events, of event_size each
 abbrev pub value_size : ℕ
@@ -77,12 +76,9 @@ sheet_rules s at =
     ∷ unless EventKind (holds (events_fine (events_part s at) at.count))
     ∷ []
 
-abbrev pub read_as : Check → Layout → Sheet
-read_as Passed at = Read at
-read_as (Failed why) at = Refused why
-
-unfoldable pub sheet_of : List ℕ → Sheet
-sheet_of s = read_as (check (sheet_rules s (layout_of s))) (layout_of s)
+-- a sheet's layout, or the lowest of 20 to 24 that applies
+unfoldable pub sheet_of : List ℕ → Result Layout Refusal
+sheet_of s = let at = layout_of s in result_and (check (sheet_rules s at)) (Ok at)
 
 -- the numbers that stand in a part, low byte first: the first k, and as many as the largest table has
 unfoldable pub numbers : ℕ → List ℕ → List ℕ

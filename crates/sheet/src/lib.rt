@@ -6,8 +6,8 @@ ghost use Rattle.rules.specs.Claim.{test};
 ghost use Rattle.sheet.specs.Layout.{counts_fine, parts_size, sheet_of, values_in};
 
 use event::{EVENT, byte_at, events_fine, pair};
+use std::array;
 use table::{Machine, Refusal};
-use trailer::up_to;
 
 mod trailer;
 
@@ -21,7 +21,7 @@ pub const FIRST_TAG: u8 = 0x52;
 
 pub const SECOND_TAG: u8 = 0x53;
 
-// As many values as the largest table has.
+// As many values as the largest table has: an array, since there is no heap, of which the caller takes the first 4N.
 const VALUES: usize = Machine::RECORDS * Machine::FIELDS;
 
 // The numbers of the trailer, and where the initial values stand.
@@ -33,19 +33,15 @@ pub struct Layout {
     pub from: usize,
 }
 
-// A sheet's layout, or the lowest of 20 to 24 that applies.
-#[derive(Clone, Copy)]
-pub enum Sheet {
-    Read { at: Layout },
-    Refused { why: Refusal },
-}
-
-// Where this fails, refusal 22 is given.
+// Where this fails, refusal 22 is given. P, N and the count stay three numbers here: `write` takes them so and `Layout` has them so, and a
+// struct of them would be made for these calls alone.
+#[tactic(auto, unfolding(rules::specs::Claim::both))]
 pub fn counts_fine(p: u8, n: u8, count: u16) -> bool
     ensures { result ≡ test 0 (counts_fine p n count) }
 {
     lists::within(Machine::TASKS, p)
-        && (lists::within(Machine::RECORDS, n) && up_to(Machine::EVENTS, count as usize))
+        && lists::within(Machine::RECORDS, n)
+        && count as usize <= Machine::EVENTS
 }
 
 // The bytes between the heading and the trailer.
@@ -55,55 +51,27 @@ pub fn parts_size(n: u8, count: u16) -> usize
     RECORD * (n as usize) + EVENT * (count as usize)
 }
 
-// Reads any bytes as a sheet.
-pub fn layout_of(s: &[u8]) -> Sheet
+// Reads any bytes as a sheet: its layout, or the lowest of 20 to 24 that applies.
+#[tactic(auto, using(crate::proofs::Refusals::tested), unfolding(crate::specs::Layout::sheet_of))]
+pub fn layout_of(s: &[u8]) -> Result<Layout, Refusal>
     ensures { result ≡ sheet_of s.now }
 {
     let size = s.len();
-    if !trailer::size_fine(size) {
-        return Sheet::Refused {
-            why: Refusal::SheetSize,
-        };
-    }
+    Refusal::SheetSize.unless(trailer::size_fine(size))?;
     let t = trailer::trailer(s);
-    if !trailer::tag_fine(t) {
-        return Sheet::Refused {
-            why: Refusal::SheetTag,
-        };
-    }
+    Refusal::SheetTag.unless(trailer::tag_fine(t))?;
     let at = trailer::layout_by(t, size);
-    let n = at.n;
-    let count = at.count;
-    if !counts_fine(at.p, n, count) {
-        return Sheet::Refused {
-            why: Refusal::Counts,
-        };
-    }
+    Refusal::Counts.unless(counts_fine(at.p, at.n, at.count))?;
     let end = size - TRAILER;
-    if !trailer::distance_fine(trailer::distance(t), n, count, end) {
-        return Sheet::Refused {
-            why: Refusal::Distance,
-        };
-    }
-    let from = at.from;
-    let first = from + RECORD * (n as usize);
-    if !events_fine(&s[first..end], count) {
-        return Sheet::Refused {
-            why: Refusal::EventKind,
-        };
-    }
-    Sheet::Read { at }
+    Refusal::Distance.unless(trailer::distance_fine(trailer::distance(t), at.n, at.count, end))?;
+    let first = at.from + RECORD * at.n as usize;
+    Refusal::EventKind.unless(events_fine(&s[first..end], at.count))?;
+    Ok(at)
 }
 
 // The numbers of a part, low byte first; past its end the bytes count as 0.
 pub fn values(part: &[u8]) -> [u16; VALUES]
     ensures { result ≡ values_in part.now }
 {
-    let mut values = [0; VALUES];
-    let mut i: usize = 0;
-    while i < VALUES {
-        values[i] = pair(byte_at(part, 2 * i), byte_at(part, 2 * i + 1));
-        i += 1;
-    }
-    values
+    array::from_fn(|i| pair(byte_at(part, 2 * i), byte_at(part, 2 * i + 1)))
 }

@@ -1,5 +1,5 @@
 // The trailer: its eight bytes, the numbers that they say, and the tests of these.
-ghost use Rattle.std.specs.Prelude.{◌≡◌, ◌+◌, ◌-◌, ◌*◌, ◌≤◌, length};
+ghost use Rattle.std.specs.Prelude.{◌≡◌, ◌+◌, ◌*◌, ◌≤◌, length};
 ghost use Rattle.table.specs.Table.{tabulate};
 ghost use Rattle.rules.specs.Claim.{test};
 ghost use Rattle.event.specs.Event.{byte};
@@ -14,17 +14,12 @@ const MOST_BYTES: usize = 65_000;
 
 pub(crate) type Trailer = [u8; TRAILER];
 
-pub(crate) fn up_to(most: usize, k: usize) -> bool
-    ensures { result ≡ test 0 (spec.up_to most k) }
-{
-    k <= most
-}
-
 // Where this fails, refusal 20 is given.
+#[tactic(auto, unfolding(rules::specs::Claim::both))]
 pub(crate) fn size_fine(size: usize) -> bool
     ensures { result ≡ test 0 (spec.size_fine size) }
 {
-    TRAILER <= size && up_to(MOST_BYTES, size)
+    (TRAILER..=MOST_BYTES).contains(&size)
 }
 
 // The last eight bytes.
@@ -32,57 +27,45 @@ pub(crate) fn trailer(s: &[u8]) -> Trailer
     requires { 8 ≤ length s.now }
     ensures { result ≡ tabulate 8 (byte (trailer s.now)) }
 {
-    let j = s.len() - TRAILER;
-    [
-        s[j],
-        s[j + 1],
-        s[j + 2],
-        s[j + 3],
-        s[j + 4],
-        s[j + 5],
-        s[j + 6],
-        s[j + 7],
-    ]
+    *s.last_chunk().unwrap()
 }
 
 // Where this fails, refusal 21 is given.
+#[tactic(auto, unfolding(rules::specs::Claim::both))]
 pub(crate) fn tag_fine(t: Trailer) -> bool
     ensures { result ≡ test 0 (spec.tag_fine t) }
 {
-    t[0] == FIRST_TAG && t[1] == SECOND_TAG
+    matches!(t, [FIRST_TAG, SECOND_TAG, ..])
 }
 
 // The distance back from the trailer, which starts at `end`. Where this fails, refusal 23 is given.
+#[tactic(auto, unfolding(rules::specs::Claim::both))]
 pub(crate) fn distance_fine(distance: u16, n: u8, count: u16, end: usize) -> bool
     ensures { result ≡ test 0 (spec.distance_fine distance n count end) }
 {
     let d = distance as usize;
-    d == parts_size(n, count) && up_to(end, d)
+    d == parts_size(n, count) && d <= end
 }
 
 // The distance that a trailer says.
 pub(crate) fn distance(t: Trailer) -> u16
     ensures { result ≡ byte t 6 + 256 * byte t 7 }
 {
-    pair(t[6], t[7])
-}
-
-// a - b, 0 where b is the larger.
-fn minus(a: usize, b: usize) -> usize
-    ensures { result ≡ a - b }
-{
-    if b <= a { a - b } else { 0 }
+    let [.., near, far] = t;
+    pair(near, far)
 }
 
 // What a trailer at the end of `size` bytes says.
 pub(crate) fn layout_by(t: Trailer, size: usize) -> Layout
     ensures { result ≡ layout_by t size }
 {
-    let end = minus(size, TRAILER);
+    let [_, _, p, n, low, high, ..] = t;
     Layout {
-        p: t[2],
-        n: t[3],
-        count: pair(t[4], t[5]),
-        from: minus(end, distance(t) as usize),
+        p,
+        n,
+        count: pair(low, high),
+        from: size
+            .saturating_sub(TRAILER)
+            .saturating_sub(distance(t) as usize),
     }
 }

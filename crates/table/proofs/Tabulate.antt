@@ -1,14 +1,15 @@
--- What stands at a place of a tabulated list, its length, and one entry more.
+-- What stands at a place of a tabulated list, its length, and what `from_fn` makes.
 use Prim.Native.Nat.{ℕ, zero, suc, ◌+◌, ◌<◌, ◌≤◌}
 use native.Mathlib.Omega.{arith}
 use native.Mathlib.Nat.{not-suc-le-zero}
-use native.Mathlib.Decide.{ℕ_discrete, dec_lt}
+use native.Mathlib.Decide.{ℕ_discrete}
 use mathlib.Core.Path.{◌≡◌, refl, sym, ap, ◌∙◌}
-use lib.ListN.{get_or, set, length, length-set}
-use lib.Seq.{get_or-set_same, get_or-set_other, ext_get_or}
-use lib.Dec.{ltb}
-use borrow.Author.Tests.{lt-ltb, le-ltb}
-use Rattle.table.specs.Table.{pick, tabulate}
+use mathlib.Core.List.{List}
+use lib.ListN.{get_or, length}
+use lib.Seq.{ext_get_or}
+use denote.Param.Members.{Mut, Called}
+use Rattle.std.specs.Array.{IsFromFnResult, IsFromFnResultFrom}
+use Rattle.table.specs.Table.{tabulate}
 
 pub length_tabulate : {A : Type 0} (n : ℕ) (f : ℕ → A) → length (tabulate n f) ≡ n
 unfolding tabulate
@@ -21,38 +22,21 @@ get_d_tabulate zero f k d l = absurd (not-suc-le-zero l)
 get_d_tabulate (suc n) f zero d l = refl
 get_d_tabulate (suc n) f (suc k) d l = get_d_tabulate n (λ j. f (suc j)) k d (omega arith)
 
--- a list filled from below with the values of f: one more
-module _ {A : Type 0} (n : ℕ) (f : ℕ → A) (d : A) where
-  abbrev filled : ℕ → ℕ → A
-  filled k j = pick (ltb j k) (f j) d
-
-  below : (k j : ℕ) → j < k → filled k j ≡ f j
-  below k j l = simp (lt-ltb _ _ l)
-
-  above : (k j : ℕ) → k ≤ j → filled k j ≡ d
-  above k j l = simp (le-ltb _ _ l)
-
-  same : (k j : ℕ) → (j ≡ k → ⊥) → filled k j ≡ filled (k + 1) j
-  same k j ne = go (dec_lt j k)
+-- an array that `from_fn` makes of calls that give the values of h
+module _ {F A : Type 0} (g : Mut F (ℕ × Unit {0}) A) (f : F) (h : ℕ → A) (n : ℕ)
+    (call : (k : ℕ) (x : A) (q : F) → k < n → Called g f (k, tt) x q → (x ≡ h k) × (q ≡ f)) where
+  from : (xs : List A) (k m : ℕ) (d : A) → k + m ≤ n → IsFromFnResultFrom g f xs k m → (i : ℕ) → k ≤ i → i < k + m → get_or xs i d ≡ h i
+  from xs k zero d l e i low high = absurd (omega arith)
+  from xs k (suc m) d l (q, x, at, called, rest) i low high =
+      let is : (x ≡ h k) × (q ≡ f) = call k x q (omega arith) called in
+      let later : k < i → get_or xs i d ≡ h i = λ after. from xs (k + 1) m d (omega arith) (rw is.1 at rest) i (omega arith) (omega arith) in
+      go (ℕ_discrete i k) (at.1 d ∙ is.0) later
     where
-      go : Dec (j < k) → filled k j ≡ filled (k + 1) j
-      go (yes l) = below k j l ∙ sym (below (k + 1) j (omega arith))
-      go (no l) = above k j (omega arith) ∙ sym (above (k + 1) j (omega arith))
+      go : Dec (i ≡ k) → get_or xs k d ≡ h k → (k < i → get_or xs i d ≡ h i) → get_or xs i d ≡ h i
+      go (yes e) here later = rw e here
+      go (no ne) here later = later (omega arith)
 
-  pub fill_more : (k : ℕ) → k < n → set (tabulate n (filled k)) k (f k) ≡ tabulate n (filled (k + 1))
-  fill_more k l =
-      ext_get_or d _ _ (simp (length-set, length_tabulate) refl) (λ i q. at i (simp (length-set, length_tabulate) at q))
-    where
-      at : (i : ℕ) → i < n → get_or (set (tabulate n (filled k)) k (f k)) i d ≡ get_or (tabulate n (filled (k + 1))) i d
-      at i q = go (ℕ_discrete i k)
-        where
-          go : Dec (i ≡ k) → get_or (set (tabulate n (filled k)) k (f k)) i d ≡ get_or (tabulate n (filled (k + 1))) i d
-          go (yes e) =
-              rw e
-              (get_or-set_same (tabulate n (filled k)) k (f k) d (rw length_tabulate l)
-              ∙ sym (get_d_tabulate n (filled (k + 1)) k d l ∙ below (k + 1) k (omega arith)))
-          go (no ne) =
-              get_or-set_other (tabulate n (filled k)) k i (f k) d ne
-              ∙ get_d_tabulate n (filled k) i d q
-              ∙ same k i ne
-              ∙ sym (get_d_tabulate n (filled (k + 1)) i d q)
+  pub from_fn_tabulates : (xs : List A) → IsFromFnResult g f xs n → A → xs ≡ tabulate n h
+  from_fn_tabulates xs e d =
+      ext_get_or d xs (tabulate n h) (e.long ∙ sym (length_tabulate n h))
+      (λ i l. let l' : i < n = rw e.long at l in from xs 0 n d (omega arith) e.each i (omega arith) (omega arith) ∙ sym (get_d_tabulate n h i d l'))

@@ -80,5 +80,5 @@ in_range p n given = pick (within max_tasks p) (pick (within max_records n) (eqb
 unfoldable pub fresh : ℕ → ℕ → List ℕ → Out
 fresh p n values =
     pick (in_range p n (length values))
-    (record { m = fresh_machine p n (fresh_records n values); answer = Accepted; cells = no_cells })
-    (record { m = fresh_machine 0 0 (replicate max_records empty_record); answer = Refused Counts; cells = no_cells })
+    (record { m = fresh_machine p n (fresh_records n values); answer = Accepted })
+    (record { m = fresh_machine 0 0 (replicate max_records empty_record); answer = Refused Counts })

@@ -1,13 +1,13 @@
 // The table: its types, its limits, and the fresh table.
 #![tactic(auto)]
 
-ghost use Rattle.std.specs.Prelude.{◌≡◌};
-ghost use Rattle.table.specs.Table.{same_cell, same_cells};
+ghost use Rattle.std.specs.Prelude.{◌≡◌, Ok, Err};
+ghost use Rattle.table.specs.Table.{pick, same_cell, same_cells};
 
 mod making;
 
 // A value with its stamp: the number of the change that wrote it, 0 for the initial value.
-#[derive(Clone, Copy)]
+#[derive(Clone, Copy, Default, PartialEq, Eq)]
 pub struct Cell {
     pub value: u16,
     pub stamp: u8,
@@ -16,26 +16,29 @@ pub struct Cell {
 // The four cells of a record, by value.
 pub type Cells = [Cell; Machine::FIELDS];
 
-// A list V of record numbers, of which the first n count.
+// A list V of record numbers, of which the first n count. The count stands beside it, and what lies past it is kept: a call may say any n,
+// and one of 0 or above 4 is refused (`machine::scx`, `machine::vlx`); a Vec would want the heap, of which there is none here.
 pub type List = [u8; Machine::LIST];
 
 // A record: four cells, a mark, the info. There is one for each last on the carrier.
-#[derive(Clone, Copy)]
+#[derive(Clone, Copy, Default)]
 pub struct Record {
     pub cells: Cells,
     pub mark: bool,
     pub info: u8,
 }
 
-#[derive(Clone, Copy)]
+#[derive(Clone, Copy, Default)]
 pub enum State {
+    #[default]
     InProgress,
     Committed,
     Aborted,
 }
 
-// An SCX-record: what an SCX wrote down when it started, its state and allFrozen.
-#[derive(Clone, Copy)]
+// An SCX-record: what an SCX wrote down when it started, its state and allFrozen. V, R and the infos stand side by side, each an array of its
+// own, since the rules name each alone (`change_fine` in Shape.antt).
+#[derive(Clone, Copy, Default)]
 pub struct Change {
     pub n: u8,
     pub v: List,
@@ -60,9 +63,11 @@ pub enum After {
     AtL11,
 }
 
-// Idle, or one place in one operation, with only the numbers that it needs.
-#[derive(Clone, Copy)]
+// Idle, or one place in one operation, with only the numbers that it needs. What is done at a place is a match on it, in the crates above:
+// the cases are fixed and each has its own numbers, so closures or a dyn would be no plainer.
+#[derive(Clone, Copy, Default)]
 pub enum Place {
+    #[default]
     Idle,
     L1 { r: u8 },
     L2 { r: u8, m1: bool },
@@ -90,7 +95,6 @@ pub enum Place {
 // Which operation a task is in.
 #[derive(Clone, Copy)]
 pub enum Operation {
-    None,
     Llx,
     Scx,
     Vlx,
@@ -98,22 +102,22 @@ pub enum Operation {
 }
 
 // A task: its place, the cells that an LLX has read so far, the list of a VLX.
-#[derive(Clone, Copy)]
+#[derive(Clone, Copy, Default)]
 pub struct Task {
     pub place: Place,
     pub cells: Cells,
     pub list: List,
 }
 
-// What a task's LLX of a record returned, or none.
-#[derive(Clone, Copy)]
+// What a task's LLX of a record returned, or none. A dropped link keeps its info and cells (`dropped` in Step.antt): so a flag, and no Option.
+#[derive(Clone, Copy, Default)]
 pub struct Link {
     pub there: bool,
     pub info: u8,
     pub cells: Cells,
 }
 
-// The whole table. Change u stands at u, entry 0 is not looked at; the link of task t to record r at t * RECORDS + r.
+// The whole table: fixed arrays, since there is no heap, and numbers that name what stands in them, as in the rules (`slot`, `link_at`). Change u stands at u, entry 0 is not looked at; the link of task t to record r at t * RECORDS + r.
 #[derive(Clone, Copy)]
 pub struct Machine {
     pub p: u8,
@@ -125,7 +129,8 @@ pub struct Machine {
     pub links: [Link; Machine::LINKS],
 }
 
-// What a call asks for. R is a bit for each place; the list of an SCX or a VLX stands beside, in the call.
+// What a call asks for. R is a bit for each place; the list of an SCX or a VLX stands beside, in the call. The numbers of an SCX stand one by
+// one, since the rules take them so (`rules` in Refuse.antt). What is done for each is a match, as at Place.
 #[derive(Clone, Copy)]
 pub enum Ask {
     Llx {
@@ -158,29 +163,38 @@ pub struct Call {
 // Why a call or a sheet is refused: 10 to 25.
 #[derive(Clone, Copy)]
 pub enum Refusal {
-    OutOfShape,
-    NoSuchTask,
-    TaskBusy,
-    TaskIdle,
-    ListLength,
-    NoSuchRecord,
-    RecordTwice,
-    PlaceOrField,
-    NoLink,
-    NumbersUsed,
-    SheetSize,
-    SheetTag,
-    Counts,
-    Distance,
-    EventKind,
-    BufferShort,
+    OutOfShape = 10,
+    NoSuchTask = 11,
+    TaskBusy = 12,
+    TaskIdle = 13,
+    ListLength = 14,
+    NoSuchRecord = 15,
+    RecordTwice = 16,
+    PlaceOrField = 17,
+    NoLink = 18,
+    NumbersUsed = 19,
+    SheetSize = 20,
+    SheetTag = 21,
+    Counts = 22,
+    Distance = 23,
+    EventKind = 24,
+    BufferShort = 25,
 }
 
-// What a call answers; the cells of a snapshot stand beside it.
+impl Refusal {
+    // Nothing where a rule is kept, else this refusal of what breaks it.
+    pub fn unless(self, kept: bool) -> Result<(), Refusal>
+        ensures { result ≡ pick kept (Ok tt) (Err self) }
+    {
+        if kept { Ok(()) } else { Err(self) }
+    }
+}
+
+// What a call answers.
 #[derive(Clone, Copy)]
 pub enum Answer {
     Accepted,
-    Snapshot,
+    Snapshot { cells: Cells },
     Finalized,
     Fail,
     Yes,
@@ -189,15 +203,14 @@ pub enum Answer {
     Refused { why: Refusal },
 }
 
-// The machine after a call, the answer, and the cells of a snapshot.
+// The machine after a call, and the answer.
 #[derive(Clone, Copy)]
 pub struct Out {
     pub m: Machine,
     pub answer: Answer,
-    pub cells: Cells,
 }
 
-// The one shared access of a step: which word it reads, sets, or sets if it holds a value.
+// The one shared access of a step: which word it reads, sets, or sets if it holds a value. What is done for each is a match, as at Place.
 #[derive(Clone, Copy)]
 pub enum Access {
     Nothing,
@@ -214,8 +227,9 @@ pub enum Access {
     Commit { u: u8 },
 }
 
-// What an access saw, in the field of its kind; the others are 0.
-#[derive(Clone, Copy)]
+// What an access saw, in the field of its kind; the others are as by default. Each place reads the one field of its access: an enum would have each
+// take apart the kinds that it never sees, so it is no plainer.
+#[derive(Clone, Copy, Default)]
 pub struct Seen {
     pub bit: bool,
     pub number: u8,
@@ -223,52 +237,35 @@ pub struct Seen {
     pub state: State,
 }
 
-// The local work that rides on an access: the next place, the answer, the field as which the cell seen is kept (4: none), whether
-// the link is stored, how many links of the task's list are dropped.
+// The local work that rides on an access. All but the first two leave the task idle.
 #[derive(Clone, Copy)]
-pub struct Move {
-    pub place: Place,
-    pub answer: Answer,
-    pub field: u8,
-    pub store: bool,
-    pub drop: u8,
+pub enum Move {
+    // on to a place
+    On(Place),
+    // on to a place, with the cell seen kept as this field
+    Keep(Place, u8),
+    // the answer
+    Done(Answer),
+    // the snapshot, with the link stored
+    Store,
+    // no, with the links to that many records of the task's list dropped
+    Unlink(u8),
 }
 
-// Whether a call passes its refusals.
-#[derive(Clone, Copy)]
-pub enum Check {
-    Passed,
-    Failed { why: Refusal },
-}
-
-// Whether two cells are equal, both value and stamp.
+// Whether two cells are equal, both value and stamp. `==` under a name: a public function that the pages name, with its
+// contract.
+#[tactic(auto, unfolding(crate::specs::Table::same_cell))]
 pub fn same_cell(a: Cell, b: Cell) -> bool
     ensures { result ≡ same_cell a b }
 {
-    if a.value == b.value {
-        a.stamp == b.stamp
-    } else {
-        false
-    }
+    a == b
 }
 
-// Whether two arrays of four cells are equal.
-pub fn same_cells(a: Cells, b: Cells) -> bool
-    ensures { result ≡ same_cells a b }
+// Whether two arrays of four cells are equal: `==` under a name, for the same reason.
+pub fn same_cells(xs: Cells, ys: Cells) -> bool
+    ensures { result ≡ same_cells xs ys }
 {
-    if same_cell(a[0], b[0]) {
-        if same_cell(a[1], b[1]) {
-            if same_cell(a[2], b[2]) {
-                same_cell(a[3], b[3])
-            } else {
-                false
-            }
-        } else {
-            false
-        }
-    } else {
-        false
-    }
+    xs == ys
 }
 
 impl Machine {

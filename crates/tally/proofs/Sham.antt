@@ -1,7 +1,7 @@
 -- THE FOURTH SHAM, "a tally made up": "T is promised as a count over those answers". A tally that counts every yes, a VLX's too, and
 -- one that is always 0, are not `tally_of` on a list of two answers; and what they make of one answer is not `counted_of`, which
--- `count`, `counted` and `counted_by` ensure. So no contract of this crate lets either pass.
-use Rattle.std.proofs.Common.{◌≡◌, ℕ, Bool, ◌≢◌, List, [], ◌∷◌, ap, arith}
+-- `count` ensures. So no contract of this crate lets either pass.
+use Rattle.std.proofs.Common.{◌≡◌, ℕ, Bool, ◌≢◌, List, [], ◌∷◌, Some, ap, arith}
 use Rattle.table.specs.declared.Answer.TheVariants.{Yes}
 use Rattle.table.specs.declared.Operation.TheVariants.{Scx, Vlx}
 use Rattle.tally.specs.declared.Tally.{Tally}
@@ -10,10 +10,10 @@ use Rattle.tally.specs.Count.{is_yes, is_no, is_fail, counts, tally_of, one_more
 
 -- a VLX's yes, and an SCX's
 abbrev pub validated : Told
-validated = record { operation = Vlx; answer = Yes }
+validated = record { operation = Some Vlx; answer = Yes }
 
 abbrev pub changed : Told
-changed = record { operation = Scx; answer = Yes }
+changed = record { operation = Some Scx; answer = Yes }
 
 abbrev pub any_yes : Told → Bool
 any_yes x = is_yes x.answer

@@ -1,32 +1,26 @@
 -- THE LAST LINE: "Last `T` with the changes made (SCX that answered yes), SCX that answered no, LLX that answered Fail."
 -- An answer counts by the operation that its task was in before the call, so a VLX's yes or no counts nowhere.
-use Rattle.std.specs.Prelude.{ℕ, zero, suc, ◌+◌, ◌%◌, ◌^◌, Bool, true, false, List, [], ◌∷◌, ◌++◌}
+use Rattle.std.specs.Prelude.{ℕ, zero, suc, ◌+◌, ◌%◌, ◌^◌, Bool, true, false, List, [], ◌∷◌, ◌++◌, Option, Some}
 use Rattle.table.specs.Table.{pick}
 use Rattle.table.specs.declared.Answer.{Answer}
-use Rattle.table.specs.declared.Answer.TheVariants.{Accepted, Snapshot, Finalized, Fail, Yes, No, Value, Refused}
+use Rattle.table.specs.declared.Answer.TheVariants.{Fail, Yes, No}
 use Rattle.table.specs.declared.Operation.{Operation}
-use Rattle.table.specs.declared.Operation.TheVariants.{None, Llx, Scx, Vlx, Read}
+use Rattle.table.specs.declared.Operation.TheVariants.{Llx, Scx}
 use Rattle.tally.specs.declared.Tally.{Tally}
 use Rattle.tally.specs.declared.Told.{Told}
 
 -- one of four by the answer: yes, no, Fail, any other
 abbrev pub by_answer : {A : Type 0} → A → A → A → A → Answer → A
-by_answer y n f other Accepted = other
-by_answer y n f other Snapshot = other
-by_answer y n f other Finalized = other
 by_answer y n f other Fail = f
 by_answer y n f other Yes = y
 by_answer y n f other No = n
-by_answer y n f other (Value cell) = other
-by_answer y n f other (Refused why) = other
+by_answer y n f other rest = other
 
--- one of three by the operation: SCX, LLX, any other
-abbrev pub by_operation : {A : Type 0} → A → A → A → Operation → A
-by_operation scx llx other None = other
-by_operation scx llx other Llx = llx
-by_operation scx llx other Scx = scx
-by_operation scx llx other Vlx = other
-by_operation scx llx other Read = other
+-- one of three by the operation: SCX, LLX, any other or none
+abbrev pub by_operation : {A : Type 0} → A → A → A → Option Operation → A
+by_operation scx llx other (Some Llx) = llx
+by_operation scx llx other (Some Scx) = scx
+by_operation scx llx other rest = other
 
 abbrev pub is_yes : Answer → Bool
 is_yes = by_answer true false false false

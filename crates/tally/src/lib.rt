@@ -2,14 +2,13 @@
 #![tactic(auto)]
 
 ghost use Rattle.std.specs.Prelude.{◌≡◌, []};
-ghost use Rattle.table.specs.declared.Operation.TheVariants.{Llx, Scx};
 ghost use Rattle.rules.specs.Places.{helping_of, operation_of};
 ghost use Rattle.tally.specs.Count.{tally_of, counted_of};
 
 use table::{After, Answer, Operation, Place};
 
 // The three numbers of `T`.
-#[derive(Clone, Copy)]
+#[derive(Clone, Copy, Default)]
 pub struct Tally {
     // SCX that answered yes
     pub made: u16,
@@ -19,136 +18,61 @@ pub struct Tally {
     pub fail: u16,
 }
 
-// What an event told: the operation that its task was in before the call, and the answer.
+// What an event told: the operation that its task was in before the call, if any, and the answer.
 #[derive(Clone, Copy)]
 pub struct Told {
-    pub operation: Operation,
+    pub operation: Option<Operation>,
     pub answer: Answer,
 }
 
-// Who helps its own change is in an SCX; who helps from L8 or L11 is in an LLX.
+// Who helps its own change is in an SCX; who helps from L8 or L11 is in an LLX. A match, as at `Place`.
 fn helping(after: After) -> Operation
     ensures { result ≡ helping_of after }
 {
     match after {
         After::Own => Operation::Scx,
-        After::AtL8 { .. } => Operation::Llx,
-        After::AtL11 => Operation::Llx,
+        After::AtL8 { .. } | After::AtL11 => Operation::Llx,
     }
 }
 
-// The operation that a task at this place is in.
-pub fn operation_of(place: Place) -> Operation
+// The operation that a task at this place is in, if any.
+pub fn operation_of(place: Place) -> Option<Operation>
     ensures { result ≡ operation_of place }
 {
     match place {
-        Place::Idle => Operation::None,
-        Place::L1 { .. } => Operation::Llx,
-        Place::L2 { .. } => Operation::Llx,
-        Place::L3 { .. } => Operation::Llx,
-        Place::L4 { .. } => Operation::Llx,
-        Place::L5 { .. } => Operation::Llx,
-        Place::L6 { .. } => Operation::Llx,
-        Place::L7 { .. } => Operation::Llx,
-        Place::L8 { .. } => Operation::Llx,
-        Place::L9 { .. } => Operation::Llx,
-        Place::L10 { .. } => Operation::Llx,
-        Place::L11 { .. } => Operation::Llx,
-        Place::H1 { after, .. } => helping(after),
-        Place::H2 { after, .. } => helping(after),
-        Place::H3 { after, .. } => helping(after),
-        Place::H4 { after, .. } => helping(after),
-        Place::H5 { after, .. } => helping(after),
-        Place::H6 { after, .. } => helping(after),
-        Place::H7 { after, .. } => helping(after),
-        Place::H8 { after, .. } => helping(after),
-        Place::Vlx { .. } => Operation::Vlx,
-        Place::Read { .. } => Operation::Read,
+        Place::Idle => None,
+        Place::H1 { after, .. }
+        | Place::H2 { after, .. }
+        | Place::H3 { after, .. }
+        | Place::H4 { after, .. }
+        | Place::H5 { after, .. }
+        | Place::H6 { after, .. }
+        | Place::H7 { after, .. }
+        | Place::H8 { after, .. } => Some(helping(after)),
+        Place::Vlx { .. } => Some(Operation::Vlx),
+        Place::Read { .. } => Some(Operation::Read),
+        _ => Some(Operation::Llx),
     }
 }
 
 // The tally of no answers.
+#[tactic(auto, unfolding(crate::specs::Count::counts, crate::specs::Count::tally_of))]
 pub fn none() -> Tally
     ensures { result ≡ tally_of [] }
 {
-    Tally {
-        made: 0,
-        no: 0,
-        fail: 0,
-    }
+    Tally::default()
 }
 
-// The tally after an SCX's answer: yes is a change made. A number of it has 16 bits and a sheet at most 5,000 events, so none wraps.
-fn scx_counted(t: Tally, answer: Answer) -> Tally
-    ensures { result ≡ counted_of t (record { operation = Scx; answer = answer }) }
-{
-    match answer {
-        Answer::Accepted => t,
-        Answer::Snapshot => t,
-        Answer::Finalized => t,
-        Answer::Fail => t,
-        Answer::Yes => Tally {
-            made: std::num::wrapping_add_u16(t.made, 1),
-            no: t.no,
-            fail: t.fail,
-        },
-        Answer::No => Tally {
-            made: t.made,
-            no: std::num::wrapping_add_u16(t.no, 1),
-            fail: t.fail,
-        },
-        Answer::Value { .. } => t,
-        Answer::Refused { .. } => t,
-    }
-}
-
-// The tally after an LLX's answer.
-fn llx_counted(t: Tally, answer: Answer) -> Tally
-    ensures { result ≡ counted_of t (record { operation = Llx; answer = answer }) }
-{
-    match answer {
-        Answer::Accepted => t,
-        Answer::Snapshot => t,
-        Answer::Finalized => t,
-        Answer::Fail => Tally {
-            made: t.made,
-            no: t.no,
-            fail: std::num::wrapping_add_u16(t.fail, 1),
-        },
-        Answer::Yes => t,
-        Answer::No => t,
-        Answer::Value { .. } => t,
-        Answer::Refused { .. } => t,
-    }
-}
-
-// The tally after one answer more; a VLX's yes or no counts nowhere.
-fn counted(t: Tally, told: Told) -> Tally
-    ensures { result ≡ counted_of t told }
-{
-    let operation = told.operation;
-    let answer = told.answer;
-    match operation {
-        Operation::None => t,
-        Operation::Llx => llx_counted(t, answer),
-        Operation::Scx => scx_counted(t, answer),
-        Operation::Vlx => t,
-        Operation::Read => t,
-    }
-}
-
-// The thin function that each event's answer is told to: the lent tally is brought up to date.
+// The thin function that each event's answer is told to: the lent tally is brought up to date. An SCX's yes is a change made; a VLX's yes
+// or no counts nowhere. A number of the tally has 16 bits and a sheet at most 5,000 events, so none wraps.
+#[tactic(auto, unfolding(crate::specs::Count::counted_of))]
 pub fn count(tally: &mut Tally, told: Told)
     ensures { tally.new ≡ counted_of tally.old told }
 {
-    *tally = counted(*tally, told);
-}
-
-// The same by value, for callers that lend nothing.
-pub fn counted_by(t: Tally, told: Told) -> Tally
-    ensures { result ≡ counted_of t told }
-{
-    let mut tally = t;
-    count(&mut tally, told);
-    tally
+    match (told.operation, told.answer) {
+        (Some(Operation::Scx), Answer::Yes) => tally.made = tally.made.wrapping_add(1),
+        (Some(Operation::Scx), Answer::No) => tally.no = tally.no.wrapping_add(1),
+        (Some(Operation::Llx), Answer::Fail) => tally.fail = tally.fail.wrapping_add(1),
+        _ => {}
+    }
 }

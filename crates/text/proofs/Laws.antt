@@ -12,6 +12,8 @@ use lib.Seq.{sets, sets-eq, set_out}
 use borrow.Author.Tests.{leb-true, leb-false, le-leb, lt-leb}
 use Rattle.text.specs.Text.{joined}
 use Rattle.text.specs.Put.{past, Put}
+use Rattle.text.specs.declared.Page.{Page}
+use Rattle.text.specs.Wrote.{Wrote}
 
 -- the position after a text that fits, and after one that does not
 past_in : (size at k : ℕ) → at + k ≤ size → past size at k ≡ at + k
@@ -117,6 +119,14 @@ pub ◌⟫◌ : {old mid new : List ℕ} {at r q : ℕ} {s t : List ℕ} → Put
       kept = b.kept ∙ a.kept;
     }
 
+-- the same of a page
+pub still : {p : Page} → Wrote p [] p
+still = record { same = refl; put = nothing }
+
+infixl 5 ◌then◌
+pub ◌then◌ : {p q r : Page} {s t : List ℕ} → Wrote p s q → Wrote q t r → Wrote p (s ++ t) r
+◌then◌ a b = record { same = b.same ∙ a.same; put = a.put ⟫ b.put }
+
 -- the buffer in parts, where there is room
 pub whole : {old new : List ℕ} {r : ℕ} {text : List ℕ} → Put old 0 text new r → length text ≤ length old → new ≡ text ++ drop (length text) old
 whole {old = old} {text = text} a h = a.held ∙ sets-eq text old 0 (omega arith) ∙ ap (λ k. text ++ drop k old) (zero-add (length text))
@@ -138,3 +148,17 @@ again a b = record { so = rw add-one (a.so ⟫ b) }
 
 pub done : {i n : ℕ} {f : ℕ → List ℕ} {old new : List ℕ} {at r : ℕ} → Puts f i old at new r → i ≡ n → Put old at (joined f n) new r
 done a e = rw (← e) a.so
+
+-- the same of pages
+pub record Writes (f : ℕ → List ℕ) (i : ℕ) (p q : Page) : Type 0 where
+  pub same : q.out.ghost_name ≡ p.out.ghost_name
+  pub puts : Puts f i p.out.now p.at q.out.now q.at
+
+pub none_written : {f : ℕ → List ℕ} {p : Page} → Writes f 0 p p
+none_written = record { same = refl; puts = first }
+
+pub one_written : {i : ℕ} {f : ℕ → List ℕ} {p q r : Page} → Writes f i p q → Wrote q (f i) r → Writes f (i + 1) p r
+one_written a b = record { same = b.same ∙ a.same; puts = again a.puts b.put }
+
+pub all_written : {i n : ℕ} {f : ℕ → List ℕ} {p q : Page} → Writes f i p q → i ≡ n → Wrote p (joined f n) q
+all_written a e = record { same = a.same; put = done a.puts e }

@@ -2,86 +2,86 @@
 #![tactic(auto)]
 
 ghost use Rattle.std.specs.Prelude.{◌≡◌, [], ◌∷◌};
-ghost use Rattle.text.specs.Text.{ended, last, lead, digits, word, row, lettered};
-ghost use Rattle.text.specs.Put.{Put};
+ghost use Rattle.text.specs.Text.{ended, last, lead, digits, row, lettered};
+ghost use Rattle.text.specs.Wrote.{Wrote};
 
-// One byte.
-fn put_byte(out: &mut [u8], at: usize, b: u8) -> usize
-    ensures { Put out.old at (b ∷ []) out.new result }
-{
-    if at < out.len() {
-        out[at] = b;
-        return at + 1;
+// A lent buffer, and the position where the next byte goes.
+#[derive(Drop)]
+pub struct Page<'a> {
+    pub out: &'a mut [u8],
+    pub at: usize,
+}
+
+impl Page<'_> {
+    // One byte. By index: the library does not say what stands in a slice after a write through `get_mut`.
+    fn byte(&mut self, b: u8)
+        ensures { Wrote self.old (b ∷ []) self.new }
+    {
+        if self.at < self.out.len() {
+            self.out[self.at] = b;
+            self.at += 1;
+        }
     }
-    at
-}
 
-// The last digit of x.
-fn put_last(out: &mut [u8], at: usize, x: u16) -> usize
-    ensures { Put out.old at (last x) out.new result }
-{
-    put_byte(out, at, 48 + (x % 10) as u8)
-}
-
-// The last digit of x, and nothing for 0.
-fn put_lead(out: &mut [u8], at: usize, x: u16) -> usize
-    ensures { Put out.old at (lead x) out.new result }
-{
-    if x == 0 {
-        return at;
+    // The last digit of x.
+    fn last(&mut self, x: u16)
+        ensures { Wrote self.old (last x) self.new }
+    {
+        self.byte(b'0' + (x % 10) as u8);
     }
-    put_last(out, at, x)
-}
 
-// A number in decimal.
-fn put_number(out: &mut [u8], at: usize, x: u16) -> usize
-    ensures { Put out.old at (digits x) out.new result }
-{
-    let p = put_lead(out, at, x / 10000);
-    let p = put_lead(out, p, x / 1000);
-    let p = put_lead(out, p, x / 100);
-    let p = put_lead(out, p, x / 10);
-    put_last(out, p, x)
-}
+    // The last digit of x, and nothing for 0.
+    fn lead(&mut self, x: u16)
+        ensures { Wrote self.old (lead x) self.new }
+    {
+        if x != 0 {
+            self.last(x);
+        }
+    }
 
-// A number, and the byte after it.
-fn put_word(out: &mut [u8], at: usize, x: u16, b: u8) -> usize
-    ensures { Put out.old at (word x b) out.new result }
-{
-    let p = put_number(out, at, x);
-    put_byte(out, p, b)
+    // A number in decimal. Most have one digit, and are not divided. A line for each digit, as `digits` has it: a loop over the divisors
+    // would want an invariant of its own.
+    fn number(&mut self, x: u16)
+        ensures { Wrote self.old (digits x) self.new }
+    {
+        if x < 10 {
+            return self.last(x);
+        }
+        self.lead(x / 10000);
+        self.lead(x / 1000);
+        self.lead(x / 100);
+        self.lead(x / 10);
+        self.last(x);
+    }
+
+    // A line of numbers. Its position is in a page of its own: behind `self` it would be read and stored again at each byte.
+    pub fn row(&mut self, xs: &[u16])
+        ensures { Wrote self.old (row xs.now) self.new }
+    {
+        let mut page = Page {
+            out: &mut *self.out,
+            at: self.at,
+        };
+        for (i, x) in xs.iter().enumerate() {
+            page.number(*x);
+            page.byte(ended(xs.len(), i));
+        }
+        self.at = page.at;
+    }
+
+    // A letter and a line of numbers.
+    pub fn lettered(&mut self, letter: u8, xs: &[u16])
+        ensures { Wrote self.old (lettered letter xs.now) self.new }
+    {
+        self.byte(letter);
+        self.byte(b' ');
+        self.row(xs);
+    }
 }
 
 // What comes after number i of n: a space, or the end of the line.
 fn ended(n: usize, i: usize) -> u8
     ensures { result ≡ ended n i }
 {
-    if i < n {
-        if i + 1 < n { b' ' } else { b'\n' }
-    } else {
-        b'\n'
-    }
-}
-
-// A line of numbers.
-pub fn put_row(out: &mut [u8], at: usize, xs: &[u16]) -> usize
-    ensures { Put out.old at (row xs.now) out.new result }
-{
-    let mut p = at;
-    let mut i = 0;
-    while i < xs.len() {
-        let b = ended(xs.len(), i);
-        p = put_word(out, p, xs[i], b);
-        i += 1;
-    }
-    p
-}
-
-// A letter and a line of numbers.
-pub fn put_lettered(out: &mut [u8], at: usize, letter: u8, xs: &[u16]) -> usize
-    ensures { Put out.old at (lettered letter xs.now) out.new result }
-{
-    let p = put_byte(out, at, letter);
-    let p = put_byte(out, p, b' ');
-    put_row(out, p, xs)
+    if i < n && i + 1 < n { b' ' } else { b'\n' }
 }

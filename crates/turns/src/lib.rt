@@ -1,5 +1,5 @@
-// A turn of the table, by value: a call on what it has in hand, and what it leaves put in place. Every index is clipped, so that a turn
-// ends with nothing undefined on any state; in a state in shape no index is altered by that.
+// A turn of the table: a call on what it has in hand, and what it leaves put in place. Every index is clipped, so that a turn ends with
+// nothing undefined on any state; in a state in shape no index is altered by that.
 #![tactic(auto)]
 
 ghost use Rattle.std.specs.Prelude.{◌≡◌, ◌%◌};
@@ -7,58 +7,41 @@ ghost use Rattle.rules.specs.Step.{drop_first};
 ghost use Rattle.hand.specs.Hand.{clip, links_of, turn_in};
 
 use begin::Links;
-use hand::Hand;
-use table::{Call, Link, List, Machine, Out};
+use hand::{Hand, Turned};
+use table::{Answer, Call, Link, List, Machine, Out};
 
 // The links of a task to the four records of a list.
-fn links_of(links: [Link; Machine::LINKS], t: u8, list: List) -> Links
-    ensures { result ≡ links_of links (t % 8) list }
+fn links_of(links: &[Link; Machine::LINKS], t: u8, list: List) -> Links
+    ensures { result ≡ links_of links.now (t % 8) list }
 {
     let at = t as usize % Machine::TASKS * Machine::RECORDS;
-    let i0 = at + list[0] as usize % Machine::RECORDS;
-    let i1 = at + list[1] as usize % Machine::RECORDS;
-    let i2 = at + list[2] as usize % Machine::RECORDS;
-    let i3 = at + list[3] as usize % Machine::RECORDS;
-    [links[i0], links[i1], links[i2], links[i3]]
+    list.map(|r| links[at + r as usize % Machine::RECORDS])
 }
 
-// The links without those of a task to the first n records of a list.
-fn drop_links(links: [Link; Machine::LINKS], t: u8, list: List, n: u8) -> [Link; Machine::LINKS]
-    ensures { result ≡ drop_first links (t % 8) (clip list) n }
+// Drops the links of a task to the first n records of a list; past its end a record counts as 0, so this goes by number: n may be above 4.
+#[tactic(auto, using(hand::proofs::Stored::drop_none, hand::proofs::Stored::drop_more))]
+fn drop_links(links: &mut [Link; Machine::LINKS], t: u8, list: List, n: u8)
+    ensures { links.new ≡ drop_first links.old (t % 8) (clip list) n }
 {
     let at = t as usize % Machine::TASKS * Machine::RECORDS;
-    let mut left = links;
-    let mut j: u8 = 0;
-    while j < n {
-        let i = at + four::number_at(list, j) as usize % Machine::RECORDS;
-        let mut link = left[i];
-        link.there = false;
-        left[i] = link;
-        j += 1;
+    for j in 0..n {
+        let r = four::at(list, j, 0) as usize % Machine::RECORDS;
+        links[at + r].there = false;
     }
-    left
 }
 
-// Any call, refusal 10 aside: its refusals from 11 on, else the start or the step.
-pub fn turn_in(m: Machine, e: Call) -> Out
-    ensures { result ≡ turn_in m e }
+// Any call, refusal 10 aside, in place: its refusals from 11 on, else the start or the step.
+#[tactic(auto, using(hand::proofs::Stored::turned, hand::proofs::Stored::lost_is))]
+pub fn turn_on(m: &mut Machine, e: Call) -> Answer
+    ensures { turn_in m.old e ≡ record { m = m.new; answer = result } }
 {
-    let t = e.task;
-    let ask = e.ask;
-    let named = e.list;
-    let k = t as usize % Machine::TASKS;
+    let k = e.task as usize % Machine::TASKS;
     let task = m.tasks[k];
-    let place = task.place;
-    let list = task.list;
-    let c = hand::number_of(ask, m.used, place) as usize;
+    let c = hand::number_of(e.ask, m.used, task.place) as usize;
     let change = m.changes[c];
-    let access = access::access_of(place, change, list);
+    let access = access::access_of(task.place, change, task.list);
     let r = access::record_of(access) as usize % Machine::RECORDS;
-    let rec = m.records[r];
     let at = k * Machine::RECORDS + r;
-    let link = m.links[at];
-    let links = m.links;
-    let near = links_of(links, t, named);
     let h = Hand {
         p: m.p,
         n: m.n,
@@ -66,30 +49,33 @@ pub fn turn_in(m: Machine, e: Call) -> Out
         task,
         access,
         change,
-        rec,
-        link,
-        near,
+        rec: m.records[r],
+        link: m.links[at],
+        near: links_of(&m.links, e.task, e.list),
     };
-    let d = hand::turn(h, e);
-    let rec2 = d.rec;
-    let change2 = d.change;
-    let task2 = d.task;
-    let link2 = d.link;
-    let gone = d.list;
-    let mut out = m;
-    out.used = d.used;
-    out.records[r] = rec2;
-    out.changes[c] = change2;
-    out.tasks[k] = task2;
-    out.links[at] = link2;
-    let links2 = out.links;
-    let left = drop_links(links2, t, gone, d.drop);
-    out.links = left;
-    let answer = d.answer;
-    let cells = d.cells;
-    Out {
-        m: out,
+    let Turned {
+        used,
+        rec,
+        change,
+        task,
+        link,
+        drop,
+        list,
         answer,
-        cells,
-    }
+    } = hand::turn(h, e);
+    m.used = used;
+    m.records[r] = rec;
+    m.changes[c] = change;
+    m.tasks[k] = task;
+    m.links[at] = link;
+    drop_links(&mut m.links, e.task, list, drop);
+    answer
+}
+
+// The same by value, as `machine::call` has it.
+pub fn turn_in(mut m: Machine, e: Call) -> Out
+    ensures { result ≡ turn_in m e }
+{
+    let answer = turn_on(&mut m, e);
+    Out { m, answer }
 }

@@ -5,15 +5,14 @@ use mathlib.Core.Path.{◌≡◌, refl}
 use mathlib.Core.Bool.{true}
 use mathlib.Core.List.{List, ◌++◌}
 use lib.ListN.{length, drop}
-use Rattle.rules.specs.Words.{Counts, EventKind, BufferShort, Check, Passed, Failed}
+use Rattle.rules.specs.Words.{Counts, EventKind, BufferShort, Ok}
 use Rattle.rules.specs.Claim.{test}
 use Rattle.rules.specs.Refuse.{check}
 use Rattle.rules.proofs.Exact.{told, passes}
 use Rattle.event.specs.Event.{events_fine}
 use Rattle.sheet.specs.Layout.{up_to}
-use Rattle.sheet.proofs.Laws.{kept_on}
-use Rattle.writer.specs.declared.Written.TheVariants.{Sheet as WrittenSheet}
-use Rattle.writer.specs.Write.{sheet_size, sheet_bytes, writer_rules, written_as, written_of, buffer_of}
+use Rattle.sheet.proofs.Laws.{kept_on, answered}
+use Rattle.writer.specs.Write.{sheet_size, sheet_bytes, writer_rules, written_of, buffer_of}
 use Rattle.writer.proofs.Writing.{given}
 
 pub record Accepts (p n count : ℕ) (values events : List ℕ) (room : ℕ) : Type 0 where
@@ -22,15 +21,11 @@ pub record Accepts (p n count : ℕ) (values events : List ℕ) (room : ℕ) : T
   pub fits : sheet_size n count ≤ room
 
 module _ {p n count : ℕ} {values events : List ℕ} where
-  pub written_accepts : {room size : ℕ} → written_of p n count values events room ≡ WrittenSheet size → Accepts p n count values events room
+  pub written_accepts : {room size : ℕ} → written_of p n count values events room ≡ Ok size → Accepts p n count values events room
   unfolding written_of
-  written_accepts {room} {size} e = rest (go (check (writer_rules p n count values events room)) e)
+  written_accepts {room} {size} e = rest (answered (check (writer_rules p n count values events room)) e).0
     where
-      go : (c : Check) → written_as c (sheet_size n count) ≡ WrittenSheet size → c ≡ Passed
-      go Passed h = refl
-      go (Failed why) h = let z : ◌≡◌ {A = ℕ} 0 1 = cc in absurd (omega arith)
-
-      rest : check (writer_rules p n count values events room) ≡ Passed → Accepts p n count values events room
+      rest : check (writer_rules p n count values events room) ≡ Ok tt → Accepts p n count values events room
       rest c =
           let k22 = kept_on (given p n count values events) _ Counts c in
           let k24 = kept_on (events_fine events count) _ EventKind k22.1 in
@@ -41,7 +36,7 @@ module _ {p n count : ℕ} {values events : List ℕ} where
             fits = omega (arith, told 0 (up_to room (sheet_size n count)) k25.0);
           }
 
-  pub accepts_written : {room : ℕ} → Accepts p n count values events room → written_of p n count values events room ≡ WrittenSheet (sheet_size n count)
+  pub accepts_written : {room : ℕ} → Accepts p n count values events room → written_of p n count values events room ≡ Ok (sheet_size n count)
   unfolding written_of
   accepts_written {room} a =
       rw (a.given_kept, a.events_kept, passes 0 (up_to room (sheet_size n count)) (omega (arith, a.fits))) refl

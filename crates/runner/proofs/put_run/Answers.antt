@@ -1,5 +1,10 @@
 -- `runner::put_run` meets its contract.
+use Prim.Native.Nat.{◌+◌, ◌*◌, ◌≤◌}
 use native.Mathlib.Omega.{arith}
+use lib.ListN.{length}
+use borrow.Author.Rules.{rules}
+use Rattle.text.specs.Put.{Put}
+use Rattle.runner.specs.Run.{run_of}
 use Rattle.sheet.proofs.Laws.{read_inside}
 use Rattle.runner.proofs.Glue.{less_first, run_is}
 use Rattle.runner.proofs.put_run.Goals as goal
@@ -13,10 +18,13 @@ overflow_add-end c = let i = read_inside c.requires in omega (arith, i.whole, i.
 pub slice_bounds-play-end : goal.slice_bounds-play-end
 slice_bounds-play-end c = let i = read_inside c.requires in omega (arith, i.whole, i.records.1, i.most_events, i.most_bytes)
 
-pub put_records-next-requires : goal.put_records-next-requires
-put_records-next-requires c = (read_inside c.requires).records.1
+pub put_records-requires : goal.put_records-requires
+put_records-requires c = (read_inside c.requires).records.1
 
 pub returns : goal.returns
 returns c =
+    let page = c.put_tally.new.page in
+    let wrote : Put c.args.out.now 0 (run_of c.args.s.now c.args.at) page.out.now page.at × (length (run_of c.args.s.now c.args.at) ≤ 42 * c.args.at.count + 38 * c.args.at.n + 20) =
     run_is _ _ c.requires _ _ _ _ _ _ _ _ _ (less_first _ _) c.table_of-first.ensures c.play-played.ensures
-    c.put_records-next.ensures c.put_tally.ensures
+    ((c.put_records.ensures.0.put, c.put_records.ensures.1)) c.put_tally.ensures.put in
+    search (rules, wrote.0, wrote.1)

@@ -8,11 +8,8 @@ use Rattle.runner.proofs.run.Goals as goal
 pub returns-then-out-room : goal.returns-then-out-room
 returns-then-out-room c = too_short _ _ _ c.layout_of-read.ensures _ c.room_of-room.ensures c.if-out-room.true
 
-pub put_run-length-requires : goal.put_run-length-requires
-put_run-length-requires c = sym c.layout_of-read.ensures ∙ c.in-Read.is
+pub returns-in-Ok : goal.returns-in-Ok
+returns-in-Ok c = printed _ _ _ (sym c.in-Ok.is ∙ c.layout_of-read.ensures) _ (c.room_of-room.ensures ∙ ap room_as c.in-Ok.is) _ _ c.if-out-room.false c.put_run.ensures
 
-pub returns-in-Read : goal.returns-in-Read
-returns-in-Read c = printed _ _ _ (sym c.in-Read.is ∙ c.layout_of-read.ensures) _ (c.room_of-room.ensures ∙ ap room_as c.in-Read.is) _ _ c.if-out-room.false c.put_run-length.ensures
-
-pub returns-in-Refused : goal.returns-in-Refused
-returns-in-Refused c = printed _ _ _ (sym c.in-Refused.is ∙ c.layout_of-read.ensures) _ (c.room_of-room.ensures ∙ ap room_as c.in-Refused.is) _ _ c.if-out-room.false ((c.put_refusal-length.ensures, refusal_most _))
+pub returns-in-Err : goal.returns-in-Err
+returns-in-Err c = printed _ _ _ (sym c.in-Err.is ∙ c.layout_of-read.ensures) _ (c.room_of-room.ensures ∙ ap room_as c.in-Err.is) _ _ c.if-out-room.false (c.put_refusal.ensures, refusal_most _)

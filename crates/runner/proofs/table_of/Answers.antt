@@ -20,4 +20,4 @@ slice_bounds-fresh-end c =
 
 pub returns : goal.returns
 returns c =
-    table_is _ _ _ _ _ (less_first _ _) (read_inside c.requires).records.1 c.values-values.ensures c.fresh-fresh.ensures
+    table_is _ _ _ _ _ (less_first _ _) (read_inside c.requires).records.1 c.values-values.ensures c.fresh.ensures

@@ -1,26 +1,28 @@
 -- `table::same_cells` meets its contract.
-use Rattle.table.specs.Table.{same_cells}
-use mathlib.Core.Path.{sym, ◌∙◌}
+use Rattle.std.proofs.Common.{rules, arith, ◌≡◌, refl, ap, ◌∙◌, Bool, List, [], ◌∷◌, length}
+use lib.Pointwise.{pointwise}
+use Rattle.table.specs.declared.Cell.{Cell}
+use Rattle.table.specs.Table.{cell_at, same_cell, same_cells}
 use Rattle.table.proofs.same_cells.Goals as goal
 
-pub returns-then-same_cell-3 : goal.returns-then-same_cell-3
-unfolding same_cells
-returns-then-same_cell-3 c =
-    let same1 = sym c.same_cell.ensures ∙ c.if-same_cell.true in
-    let same2 = sym c.same_cell-then-same_cell.ensures ∙ c.if-same_cell-2.true in
-    simp (sym c.same_cell-then-same_cell-2.ensures ∙ c.if-same_cell-3.true, same2, same1) c.same_cell-then-same_cell-3.ensures
+abbrev four : List Cell → List Cell
+four cs = cell_at cs 0 ∷ cell_at cs 1 ∷ cell_at cs 2 ∷ cell_at cs 3 ∷ []
 
-pub returns-else-same_cell-3 : goal.returns-else-same_cell-3
-unfolding same_cells
-returns-else-same_cell-3 c =
-    let same1 = sym c.same_cell.ensures ∙ c.if-same_cell.true in
-    simp (sym c.same_cell-then-same_cell-2.ensures ∙ c.if-same_cell-3.false, sym c.same_cell-then-same_cell.ensures ∙ c.if-same_cell-2.true, same1)
+is_four : (cs : List Cell) → length cs ≡ 4 → cs ≡ four cs
+is_four [] l = absurd (omega arith)
+is_four (a ∷ []) l = absurd (omega arith)
+is_four (a ∷ b ∷ []) l = absurd (omega arith)
+is_four (a ∷ b ∷ c ∷ []) l = absurd (omega arith)
+is_four (a ∷ b ∷ c ∷ d ∷ []) l = refl
+is_four (a ∷ b ∷ c ∷ d ∷ e ∷ es) l = absurd (omega arith)
 
-pub returns-else-same_cell-2 : goal.returns-else-same_cell-2
+four_same : (E : Cell → Cell → Bool) → ((c d : Cell) → E c d ≡ same_cell c d) → (a b : List Cell) → length a ≡ 4 → length b ≡ 4 → pointwise E a b ≡ same_cells a b
 unfolding same_cells
-returns-else-same_cell-2 c =
-    simp (sym c.same_cell-then-same_cell.ensures ∙ c.if-same_cell-2.false, sym c.same_cell.ensures ∙ c.if-same_cell.true)
+four_same E h a b la lb =
+    ap (λ cs. pointwise E cs b) (is_four a la)
+    ∙ ap (pointwise E (four a)) (is_four b lb)
+    ∙ grind (arith, h)
 
-pub returns-else-same_cell : goal.returns-else-same_cell
-unfolding same_cells
-returns-else-same_cell c = simp (sym c.same_cell.ensures ∙ c.if-same_cell.false)
+pub returns : goal.returns
+unfolding same_cell
+returns c = c.eq.ensures ∙ four_same _ (λ x y. search rules) c.args.xs c.args.ys (omega arith) (omega arith)

@@ -1,2 +1,0 @@
--- The module of proofs/ beside the proofs of the functions.
-pub mod Glue

@@ -1,2 +1,0 @@
--- The module of specs/.
-pub mod Ran
