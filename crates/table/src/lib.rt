@@ -117,7 +117,8 @@ pub struct Link {
     pub cells: Cells,
 }
 
-// The whole table: fixed arrays, since there is no heap, and numbers that name what stands in them, as in the rules (`slot`, `link_at`). Change u stands at u, entry 0 is not looked at; the link of task t to record r at t * RECORDS + r.
+// The whole table: fixed arrays, since there is no heap, and numbers that name what stands in them, as in the rules (`slot`, `link_at`).
+// Change u stands at u, entry 0 is not looked at; the link of task t to record r at t * RECORDS + r.
 #[derive(Clone, Copy)]
 pub struct Machine {
     pub p: u8,
