@@ -16,6 +16,7 @@ pub struct Played {
 }
 
 // The first count events, of the bytes lent, from the machine given.
+#[tactic(auto, using(crate::proofs::Glue::ends))]
 pub fn play(events: &[u8], count: u16, first: Machine, out: &mut [u8]) -> Played
     ensures { Plays first events.now count out.old out.new result }
 {

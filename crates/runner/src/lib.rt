@@ -39,6 +39,7 @@ fn put_records(page: &mut Page<'_>, m: Machine, n: u8)
 }
 
 // The fresh table of a sheet.
+#[tactic(auto, using(sheet::proofs::Laws::read_inside))]
 fn table_of(s: &[u8], at: Layout) -> Machine
     requires { sheet_of s.now ≡ Ok at }
     ensures { result ≡ table_of s.now at }
@@ -50,6 +51,7 @@ fn table_of(s: &[u8], at: Layout) -> Machine
 }
 
 // The run of a sheet that is not refused.
+#[tactic(auto, using(sheet::proofs::Laws::read_inside))]
 fn put_run(s: &[u8], at: Layout, out: &mut [u8]) -> usize
     requires { sheet_of s.now ≡ Ok at }
     ensures { Put out.old 0 (run_of s.now at) out.new result × (length (run_of s.now at) ≤ 42 * at.count + 38 * at.n + 20) }

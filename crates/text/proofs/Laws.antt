@@ -159,6 +159,3 @@ none_written = record { same = refl; puts = first }
 
 pub one_written : {i : ℕ} {f : ℕ → List ℕ} {p q r : Page} → Writes f i p q → Wrote q (f i) r → Writes f (i + 1) p r
 one_written a b = record { same = b.same ∙ a.same; puts = again a.puts b.put }
-
-pub all_written : {i n : ℕ} {f : ℕ → List ℕ} {p q : Page} → Writes f i p q → i ≡ n → Wrote p (joined f n) q
-all_written a e = record { same = a.same; put = done a.puts e }

@@ -1,6 +1,6 @@
 -- `play::play` meets its contract.
-use Rattle.std.proofs.Common.{arith, refl, ◌∙◌, rules}
-use Rattle.play.proofs.Glue.{begins, goes_on, ends}
+use Rattle.std.proofs.Common.{arith, refl, ◌∙◌}
+use Rattle.play.proofs.Glue.{begins, goes_on}
 use Rattle.play.proofs.play.Goals as goal
 
 pub loop-i-init : goal.loop-i-init
@@ -12,6 +12,3 @@ loop-i-preserved c = (
   goes_on _ _ _ _ _ _ _ _ _ _ _ _ _ _ _ c.loop-i.invariant.1 (omega arith) c.event-e.ensures c.turn_on-answer.ensures
       c.operation_of-operation.ensures c.count.ensures (c.put_answer.ensures.0.put, c.put_answer.ensures.1),
 )
-
-pub returns : goal.returns
-returns c = search (rules, ends)

@@ -1,7 +1,5 @@
 -- `runner::put_records` meets its contract.
-use native.Mathlib.Omega.{arith}
-use mathlib.Core.Path.{◌≡◌}
-use Rattle.text.proofs.Laws.{none_written, one_written, all_written}
+use Rattle.text.proofs.Laws.{none_written, one_written}
 use Rattle.text.proofs.Most.{most_none, most_again}
 use Rattle.runner.specs.Run.{record_line_at}
 use Rattle.runner.proofs.put_records.Goals as goal
@@ -15,8 +13,3 @@ loop-r-preserved c = (
   most_again (record_line_at c.args.m) 38 _ c.loop-r.invariant.1
       c.put_record.ensures.1,
 )
-
-pub returns : goal.returns
-returns c =
-    let e : c.loop-r.r ≡ c.args.n = omega arith in
-    (all_written c.loop-r.invariant.0 e, rw e at c.loop-r.invariant.1)

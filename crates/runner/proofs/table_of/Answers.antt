@@ -4,15 +4,6 @@ use Rattle.sheet.proofs.Laws.{read_inside}
 use Rattle.runner.proofs.Glue.{less_first, taken, table_is}
 use Rattle.runner.proofs.table_of.Goals as goal
 
-pub overflow_add-end : goal.overflow_add-end
-overflow_add-end c = let i = read_inside c.requires in omega (arith, i.whole, i.records.1, i.most_bytes)
-
-pub slice_bounds-values-end : goal.slice_bounds-values-end
-slice_bounds-values-end c = let i = read_inside c.requires in omega (arith, i.whole, i.records.1, i.most_bytes)
-
-pub slice_bounds-values-end-2 : goal.slice_bounds-values-end-2
-slice_bounds-values-end-2 c = let i = read_inside c.requires in omega (arith, i.whole, i.records.1, i.most_bytes)
-
 pub slice_bounds-fresh-end : goal.slice_bounds-fresh-end
 slice_bounds-fresh-end c =
     let i = read_inside c.requires in
