@@ -25,7 +25,11 @@ pub struct Begun {
 pub fn next_number(used: u8) -> u8
     ensures { result ≡ next_number used }
 {
-    used.checked_add(1).unwrap_or(0)
+    if usize::from(used) < Machine::CHANGES {
+        used + 1
+    } else {
+        0
+    }
 }
 
 fn old_in(links: Links, written: u8, field: u8) -> Cell

@@ -45,7 +45,8 @@ impl Run {
     }
 }
 
-// Numbers, each after a space, and the end of the line. A slice has no Display, and a type for these calls would be no plainer.
+// Numbers, each after a space, and the end of the line: each is written alone, so that a write that fails leaves the numbers before it. A slice
+// has no Display, and a type for these calls would be no plainer.
 fn write_numbers(rt: &impl Print, numbers: &[u16]) -> io::Result<()> {
     for x in numbers {
         print!(rt; " {x}")?;
@@ -55,11 +56,16 @@ fn write_numbers(rt: &impl Print, numbers: &[u16]) -> io::Result<()> {
 
 // The event's number, the task, the answer's number, and the values that it reports: four of a snapshot, one of a value read.
 fn write_event(rt: &impl Print, event: u16, answer: Answer) -> io::Result<()> {
-    print!(rt; "{event} {TASK} {}", answers::number_of(answer))?;
+    let task = u16::from(TASK);
+    let no = u16::from(answers::number_of(answer));
+    print!(rt; "{event}")?;
     match answer {
-        Answer::Snapshot { cells } => write_numbers(rt, &cells.map(|c| c.value)),
-        Answer::Value { cell } => write_numbers(rt, &[cell.value]),
-        _ => write_numbers(rt, &[]),
+        Answer::Snapshot { cells } => {
+            let [c0, c1, c2, c3] = cells.map(|c| c.value);
+            write_numbers(rt, &[task, no, c0, c1, c2, c3])
+        }
+        Answer::Value { cell } => write_numbers(rt, &[task, no, cell.value]),
+        _ => write_numbers(rt, &[task, no]),
     }
 }
 
@@ -88,8 +94,13 @@ fn main(rt: HostRuntime) -> io::Result<()> {
     run.event(&rt, out)?;
     run.steps(&rt, 4)?;
     let rec = run.m.records[RECORD as usize];
-    print!(rt; "R {RECORD} {}", u16::from(rec.mark))?;
-    write_numbers(&rt, &rec.cells.map(|c| c.value))?;
+    let [c0, c1, c2, c3] = rec.cells.map(|c| c.value);
+    print!(rt; "R")?;
+    write_numbers(
+        &rt,
+        &[u16::from(RECORD), u16::from(rec.mark), c0, c1, c2, c3],
+    )?;
     let Tally { made, no, fail } = run.tally;
-    println!(rt; "T {made} {no} {fail}")
+    print!(rt; "T")?;
+    write_numbers(&rt, &[made, no, fail])
 }

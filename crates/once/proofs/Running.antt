@@ -45,12 +45,12 @@ put_once a b = a.next ∙ sym b.next
 put_lent : {old new also text : List ℕ} {at r q : ℕ} → Put old at text new r → Put old at text also q → new ≡ also
 put_lent a b = a.held ∙ sym b.held
 
--- what a page holds: its position, and the bytes of its buffer; a text written on it leaves one of each
-abbrev pub held : Page → ℕ × List ℕ
-held p = (p.at, p.out.now)
+-- what a page holds: its buffer, by the name of its loan, its position, and the bytes of the buffer; a text written on it leaves one of each
+abbrev pub held : Page → ℕ × ℕ × List ℕ
+held p = (p.out.ghost_name, p.at, p.out.now)
 
 wrote_lent : {old new also : Page} {text : List ℕ} → Wrote old text new → Wrote old text also → held new ≡ held also
-wrote_lent a b = λ k. (put_once a.put b.put k, put_lent a.put b.put k)
+wrote_lent a b = λ k. ((a.same ∙ sym b.same) k, put_once a.put b.put k, put_lent a.put b.put k)
 
 -- events played leave one machine, tally and place
 plays_once : {m : Machine} {es old new also : List ℕ} {count : ℕ} {o p : Played} → Plays m es count old new o → Plays m es count old also p → o ≡ p

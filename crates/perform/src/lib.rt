@@ -5,7 +5,7 @@
 ghost use Rattle.std.specs.Prelude.{◌≡◌};
 ghost use Rattle.rules.specs.Perform.{seen_by, record_by, change_by};
 
-use table::{Access, Cell, Change, Record, Seen, State};
+use table::{Access, Cell, Change, Record, Seen, State, same_cell};
 
 // What the access sees of the record x and the change ch that it touches.
 pub fn seen_by(a: Access, x: Record, ch: Change) -> Seen
@@ -48,18 +48,17 @@ pub fn seen_by(a: Access, x: Record, ch: Change) -> Seen
 
 // The record x after the access: a hold sets its info, if that is the one wanted, a close its mark, a write a cell, if both value and
 // stamp are those of the old one.
-#[tactic(auto, unfolding(table::specs::Table::same_cell))]
 pub fn record_by(a: Access, x: Record) -> Record
     ensures { result ≡ record_by a x }
 {
     match a {
         Access::Hold { want, u, .. } if x.info == want => Record { info: u, ..x },
         Access::Close { .. } => Record { mark: true, ..x },
-        Access::Write { f, old, new, .. } if four::at(x.cells, f, Cell::default()) == old =>
-            Record {
-                cells: four::with(x.cells, f, new),
-                ..x
-            },
+        Access::Write { f, old, new, .. }
+            if same_cell(four::at(x.cells, f, Cell::default()), old) => Record {
+            cells: four::with(x.cells, f, new),
+            ..x
+        },
         _ => x,
     }
 }

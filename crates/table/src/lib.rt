@@ -262,11 +262,15 @@ pub fn same_cell(a: Cell, b: Cell) -> bool
     a == b
 }
 
-// Whether two arrays of four cells are equal: `==` under a name, for the same reason.
+// Whether two arrays of four cells are equal, by that comparison of each two.
+#[tactic(auto, unfolding(crate::specs::Table::same_cells))]
 pub fn same_cells(xs: Cells, ys: Cells) -> bool
     ensures { result ≡ same_cells xs ys }
 {
-    xs == ys
+    same_cell(xs[0], ys[0])
+        && same_cell(xs[1], ys[1])
+        && same_cell(xs[2], ys[2])
+        && same_cell(xs[3], ys[3])
 }
 
 impl Machine {
