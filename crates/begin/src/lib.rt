@@ -21,7 +21,8 @@ pub struct Begun {
     pub list: List,
 }
 
-// The number that an SCX takes, 0 where all are used. No Option: each caller would only unwrap it to 0, the entry that is not looked at.
+// The number that an SCX takes, 0 where all are used: by the machine's limit, and not by the byte's own. No Option: each caller would only
+// unwrap it to 0, the entry that is not looked at.
 pub fn next_number(used: u8) -> u8
     ensures { result ≡ next_number used }
 {

@@ -1,4 +1,4 @@
--- The unused bytes of an event added up, for the law `vlx_sum` (proofs/Unused.antt).
+-- The unused bytes of an event added up: the sum is 0 exactly where each of them is (proofs/Unused.antt).
 use Rattle.std.specs.Prelude.{ℕ, zero, suc, ◌+◌, List, ltb}
 use Rattle.table.specs.Table.{pick}
 use Rattle.event.specs.Event.{byte, uses, event_size}

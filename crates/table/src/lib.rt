@@ -253,8 +253,7 @@ pub enum Move {
     Unlink(u8),
 }
 
-// Whether two cells are equal, both value and stamp. `==` under a name: a public function that the pages name, with its
-// contract.
+// Whether two cells are equal, both value and stamp. `==` under a name: a public function, with its contract.
 #[tactic(auto, unfolding(crate::specs::Table::same_cell))]
 pub fn same_cell(a: Cell, b: Cell) -> bool
     ensures { result ≡ same_cell a b }
